@@ -1,0 +1,24 @@
+-- Bytes as lines of mail have them: blanks, and ASCII text without regard to case.
+use Rattle.std.specs.Prelude.{ℕ, List, [], ◌∷◌, Bool, ◌||◌, ◌==◌, if◌then◌else◌}
+use Rattle.std.specs.List.{list_all}
+use Rattle.std.specs.Str.{str_eq_ignore_ascii_case}
+
+-- a space or a tab (RFC 5322, 2.2.2)
+abbrev pub is_blank : ℕ → Bool
+is_blank b = b == 32 || b == 9
+
+-- the text without the blanks at its front, at its end, and at both ends
+abbrev pub trim_front : List ℕ → List ℕ
+trim_front [] = []
+trim_front (b ∷ text) = if is_blank b then trim_front text else b ∷ text
+
+abbrev pub trim_back : List ℕ → List ℕ
+trim_back [] = []
+trim_back (b ∷ text) = if list_all is_blank (b ∷ text) then [] else b ∷ trim_back text
+
+abbrev pub trimmed : List ℕ → List ℕ
+trimmed text = trim_back (trim_front text)
+
+-- the two texts are the same without regard to ASCII case
+abbrev pub same_text : List ℕ → List ℕ → Bool
+same_text a b = str_eq_ignore_ascii_case a b
