@@ -1,7 +1,7 @@
 -- Bytes as lines of mail have them: blanks, and ASCII text without regard to case.
-use Rattle.std.specs.Prelude.{ℕ, List, [], ◌∷◌, Bool, ◌||◌, ◌==◌, if◌then◌else◌}
+use Rattle.std.specs.Prelude.{ℕ, List, [], ◌∷◌, Bool, ◌||◌, ◌==◌, if◌then◌else◌, Option, Some, None, length, take, drop}
 use Rattle.std.specs.List.{list_all}
-use Rattle.std.specs.Str.{str_eq_ignore_ascii_case}
+use Rattle.std.specs.Str.{bytes_eq, str_eq_ignore_ascii_case}
 
 -- a space or a tab (RFC 5322, 2.2.2)
 abbrev pub is_blank : ℕ → Bool
@@ -22,3 +22,7 @@ trimmed text = trim_back (trim_front text)
 -- the two texts are the same without regard to ASCII case
 abbrev pub same_text : List ℕ → List ℕ → Bool
 same_text a b = str_eq_ignore_ascii_case a b
+
+-- what stands behind this front, if the text begins with it
+abbrev pub behind : List ℕ → List ℕ → Option (List ℕ)
+behind front text = if bytes_eq (take (length front) text) front then Some (drop (length front) text) else None

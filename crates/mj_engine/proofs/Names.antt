@@ -1,0 +1,87 @@
+-- The report of all names is the report of the mails and the refused files.
+use Rattle.std.proofs.Common.{◌≡◌, ℕ, zero, suc, ◌+◌, Bool, true, false, cond, List, [], ◌∷◌, ◌++◌, length, drop, get_or, Option, Some, None, IfSome, Result, Ok, Err, filter, refl, sym, ap, ◌∙◌, arith, append_assoc, append-nil}
+use Rattle.std.specs.List.{flat_map, filter_map, cons_option, enumerate_from, slice_get}
+use Rattle.std.proofs.lemmas.Grind.{flat_map-append}
+use Rattle.std.proofs.lemmas.List.{drop_more}
+use Rattle.std.proofs.lemmas.Option.{slice_get_within, get_or_from_slice_get}
+use Rattle.mj_io.specs.Folder.{names_in}
+use Rattle.mj_mail.specs.declared.mail.NewMail.{NewMail}
+use Rattle.mj_mail.specs.Mail.{first}
+use Rattle.mj_mail.specs.Meaning.{meaning, tree}
+use Rattle.mj_engine.specs.declared.plan.Plan.{Plan}
+use Rattle.mj_engine.specs.declared.refusal.Refusal.{Refusal}
+use Rattle.mj_engine.specs.declared.report.Report.{Report}
+use Rattle.mj_engine.specs.Intake.{folder, is_mail_name, judged, found_mail, found_refusal, mails_of, refusals_of}
+use Rattle.mj_engine.specs.Report.{fact_line, refused_line}
+use Rattle.mj_engine.specs.Run.{with_found, with_name, with_names, empty_report, report as report_of, plan_in, output, output_by}
+use Rattle.mj_engine.specs.Step.{step}
+
+-- what follows from two clauses on what an object tells
+pub IfSome_both : {X : Type 0} (o : Option X) (P Q R : X → Type 0) → IfSome o P → IfSome o Q → ((x : X) → P x → Q x → R x) → IfSome o R
+IfSome_both None P Q R p q f = tt
+IfSome_both (Some x) P Q R p q f = f x p q
+
+-- a list from the place of an item on
+pub drop_at : {X : Type 0} (xs : List X) (k : ℕ) (x : X) → slice_get xs k ≡ Some x → drop k xs ≡ x ∷ drop (k + 1) xs
+drop_at xs k x e = drop_more xs k x (slice_get_within xs k x e) ∙ ap (λ y. y ∷ drop (k + 1) xs) (get_or_from_slice_get xs k x x e)
+
+module _ (plan : Plan) (files : List (List ℕ × List ℕ)) where
+  -- the lines of mails that are numbered from n on
+  abbrev lines_from : ℕ → List NewMail → List ℕ
+  lines_from n mails = flat_map fact_line (meaning (step plan) (enumerate_from n mails))
+
+  found_facts : (name : List ℕ) (found : Option (Result NewMail Refusal)) (mails : List NewMail) (report : Report)
+      → (with_found plan name report found).facts ++ lines_from ((with_found plan name report found).accepted + 1) mails
+      ≡ report.facts ++ lines_from (report.accepted + 1) (cons_option (found_mail found) mails)
+  found_facts name None mails report = refl
+  found_facts name (Some (Err refusal)) mails report = refl
+  found_facts name (Some (Ok mail)) mails report =
+      let here = tree (step plan) (first (report.accepted + 1) mail) in
+      let rest = meaning (step plan) (enumerate_from (report.accepted + 1 + 1) mails) in
+      append_assoc report.facts (flat_map fact_line here) (flat_map fact_line rest)
+      ∙ ap (λ lines. report.facts ++ lines) (sym (flat_map-append fact_line here rest))
+
+  name_facts : (name : List ℕ) (names : List (List ℕ)) (report : Report) (b : Bool)
+      → (cond b (with_found plan name report (judged files name)) report).facts ++ lines_from ((cond b (with_found plan name report (judged files name)) report).accepted + 1) (mails_of files names)
+      ≡ report.facts ++ lines_from (report.accepted + 1) (mails_of files (cond b (name ∷ names) names))
+  name_facts name names report true = found_facts name (judged files name) (mails_of files names) report
+  name_facts name names report false = refl
+
+  pub facts_of_names : (names : List (List ℕ)) (report : Report)
+      → (with_names plan files names report).facts ≡ report.facts ++ lines_from (report.accepted + 1) (mails_of files (filter is_mail_name names))
+  facts_of_names [] report = sym (append-nil report.facts)
+  facts_of_names (name ∷ names) report =
+      facts_of_names names (with_name plan files report name) ∙ name_facts name (filter is_mail_name names) report (is_mail_name name)
+
+  found_refused : (name : List ℕ) (found : Option (Result NewMail Refusal)) (refusals : List (List ℕ × Refusal)) (report : Report)
+      → (with_found plan name report found).refused ++ flat_map refused_line refusals
+      ≡ report.refused ++ flat_map refused_line (cons_option (found_refusal name found) refusals)
+  found_refused name None refusals report = refl
+  found_refused name (Some (Ok mail)) refusals report = refl
+  found_refused name (Some (Err refusal)) refusals report = append_assoc report.refused (refused_line (name, refusal)) (flat_map refused_line refusals)
+
+  name_refused : (name : List ℕ) (names : List (List ℕ)) (report : Report) (b : Bool)
+      → (cond b (with_found plan name report (judged files name)) report).refused ++ flat_map refused_line (refusals_of files names)
+      ≡ report.refused ++ flat_map refused_line (refusals_of files (cond b (name ∷ names) names))
+  name_refused name names report true = found_refused name (judged files name) (refusals_of files names) report
+  name_refused name names report false = refl
+
+  pub refused_of_names : (names : List (List ℕ)) (report : Report)
+      → (with_names plan files names report).refused ≡ report.refused ++ flat_map refused_line (refusals_of files (filter is_mail_name names))
+  refused_of_names [] report = sym (append-nil report.refused)
+  refused_of_names (name ∷ names) report =
+      refused_of_names names (with_name plan files report name) ∙ name_refused name (filter is_mail_name names) report (is_mail_name name)
+
+  -- one more name
+  pub with_names-next : (names : List (List ℕ)) (k : ℕ) (name : List ℕ) (report : Report) → slice_get names k ≡ Some name
+      → with_names plan files (drop (k + 1) names) (with_name plan files report name) ≡ with_names plan files (drop k names) report
+  with_names-next names k name report e = sym (ap (λ rest. with_names plan files rest report) (drop_at names k name e))
+
+  -- what a run writes
+  pub output_is : (report : Report) (text : List ℕ) → plan_in files ≡ Ok plan
+      → report ≡ with_names plan files (names_in folder files) empty_report → text ≡ report.facts ++ report.refused → output files ≡ Ok text
+  output_is report text planned named written =
+      let facts : report.facts ≡ lines_from 1 (mails_of files (filter is_mail_name (names_in folder files))) = ap (λ r. r.facts) named ∙ facts_of_names (names_in folder files) empty_report in
+      let others : report.refused ≡ flat_map refused_line (refusals_of files (filter is_mail_name (names_in folder files))) = ap (λ r. r.refused) named ∙ refused_of_names (names_in folder files) empty_report in
+      let same : report_of plan files ≡ text = sym (written ∙ rw (facts, others)) in
+      ap (output_by files) planned ∙ ap (λ t. Ok t) same

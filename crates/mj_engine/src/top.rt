@@ -1,0 +1,135 @@
+ghost use Rattle.std.specs.Prelude.{◌≡◌, ◌⊎◌, ◌↔◌, ◌≤◌, List, ℕ, true, false, Ok, Err, IfSome};
+ghost use Rattle.mj_terms.specs.Causes.{Rose};
+ghost use Rattle.mj_io.specs.Grown.{grown};
+ghost use Rattle.mj_engine.specs.Run.{output, plan_in};
+ghost use Rattle.mj_engine.specs.Top.{is_run, is_status, usage_line, read_line, config_line, GrowsByLine, GrowsByFront};
+
+use crate::PlanKind;
+use crate::run::{RunFault, run};
+use mj_io::{Files, Sink};
+use std::alloc::Global;
+
+/// The command was done.
+const DONE: u8 = 0;
+
+/// The words are refused.
+const USAGE: u8 = 2;
+
+/// The configuration is missing or refused.
+const CONFIGURATION: u8 = 3;
+
+/// The files failed.
+const READ: u8 = 5;
+
+/// The sink failed while the report was written.
+const WRITE: u8 = 6;
+
+/// There was no room.
+const MEMORY: u8 = 12;
+
+/// Does what the words of the command line ask, and answers the status with which the program ends.
+///
+/// The one word so far is `run`: the mails of the folder `mails` are carried by `conf/mailetcontainer.toml`, and the
+/// report is written: the line of each fact in the order of places, and then the line of each refused file. Statuses 2,
+/// 3 and 5 write one line that says why.
+pub fn james_one<F: Files, S: Sink>(
+    alloc: Global,
+    words: &Vec<String>,
+    files: &mut F,
+    out: &mut S,
+) -> u8
+    // Which status comes when. Want of memory alone, 12, is free.
+    ensures status { is_status result ≡ true }
+    ensures words { (result ≡ 2) ↔ (is_run words.now.items ≡ false) }
+    ensures configuration { IfSome (F.told files.old) (λ told. (kind : PlanKind) → plan_in told ≡ Err kind
+        → is_run words.now.items ≡ true → (result ≡ 3) ⊎ ((result ≡ 5) ⊎ (result ≡ 12))) }
+    ensures read { result ≡ 5 → Rose (F.faults files.old) (F.faults files.new) }
+    ensures write { result ≡ 6 → Rose (S.faults out.old) (S.faults out.new) }
+
+    // What the sink's bytes grew by.
+    ensures report { result ≡ 0 → IfSome (F.told files.old) (λ told. (text : List ℕ) × (output told ≡ Ok text)
+        × (S.told out.new ≡ grown (S.told out.old) text)) }
+    ensures report_front { result ≡ 6 → IfSome (F.told files.old) (λ told. (text : List ℕ) × (output told ≡ Ok text)
+        × GrowsByFront (S.told out.old) (S.told out.new) text) }
+    ensures usage_text { result ≡ 2 → GrowsByLine (S.told out.old) (S.told out.new) (S.faults out.old) (S.faults out.new) usage_line }
+    ensures config_text { result ≡ 3 → (kind : PlanKind) × IfSome (F.told files.old) (λ told. plan_in told ≡ Err kind)
+        × GrowsByLine (S.told out.old) (S.told out.new) (S.faults out.old) (S.faults out.new) (config_line kind) }
+    ensures read_text { result ≡ 5 → GrowsByLine (S.told out.old) (S.told out.new) (S.faults out.old) (S.faults out.new) read_line }
+    ensures nothing { result ≡ 12 → S.told out.new ≡ S.told out.old }
+
+    // What stays as it was.
+    ensures same_files { F.told files.new ≡ F.told files.old }
+    ensures file_faults { F.faults files.old ≤ F.faults files.new }
+    ensures sink_faults { S.faults out.old ≤ S.faults out.new }
+{
+    if !asks_run(words) {
+        put_line(out, usage());
+        return USAGE;
+    }
+    match run(alloc, files) {
+        Ok(text) => write_report(out, text.as_slice()),
+        Err(RunFault::Refused(kind)) => {
+            put_line(out, config_fault(kind));
+            CONFIGURATION
+        }
+        Err(RunFault::Read) => {
+            put_line(out, read_fault());
+            READ
+        }
+        Err(RunFault::Memory) => MEMORY,
+    }
+}
+
+/// Whether the words are the one word `run`.
+fn asks_run(words: &Vec<String>) -> bool
+    ensures { result ≡ is_run words.now.items }
+{
+    match words.as_slice() {
+        [word] => word.as_str() == "run",
+        _ => false,
+    }
+}
+
+/// Writes the report, and answers the status of that.
+fn write_report<S: Sink>(out: &mut S, text: &[u8]) -> u8
+    ensures status { (result ≡ DONE) ⊎ (result ≡ WRITE) }
+    ensures done { result ≡ DONE → S.told out.new ≡ grown (S.told out.old) text.now }
+    ensures front { result ≡ WRITE → GrowsByFront (S.told out.old) (S.told out.new) text.now }
+    ensures write { result ≡ WRITE → Rose (S.faults out.old) (S.faults out.new) }
+    ensures later { S.faults out.old ≤ S.faults out.new }
+{
+    match out.write(text) {
+        Ok(()) => DONE,
+        Err(_) => WRITE,
+    }
+}
+
+/// Writes the line that says why a command wasn't done. The status stays if that fails too.
+fn put_line<S: Sink>(out: &mut S, line: &[u8])
+    ensures line { GrowsByLine (S.told out.old) (S.told out.new) (S.faults out.old) (S.faults out.new) line.now }
+    ensures later { S.faults out.old ≤ S.faults out.new }
+{
+    let _ = out.write(line);
+}
+
+fn usage() -> &'static [u8]
+    ensures { result.now ≡ usage_line }
+{
+    b"usage: james COMMAND [--workers N] [--number N] [--count N]\n"
+}
+
+fn read_fault() -> &'static [u8]
+    ensures { result.now ≡ read_line }
+{
+    b"fault read\n"
+}
+
+fn config_fault(kind: PlanKind) -> &'static [u8]
+    ensures { result.now ≡ config_line kind }
+{
+    match kind {
+        PlanKind::NoFile => b"fault config NoFile 0 0\n",
+        PlanKind::NotToml => b"fault config NotToml 0 0\n",
+        PlanKind::NotBuilt => b"fault config NotBuilt 0 0\n",
+    }
+}

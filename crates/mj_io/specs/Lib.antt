@@ -1,0 +1,3 @@
+pub mod Folder
+pub mod Grown
+pub mod Held

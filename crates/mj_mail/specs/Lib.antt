@@ -1,0 +1,4 @@
+pub mod Head
+pub mod Mail
+pub mod Meaning
+pub mod Name

@@ -1,0 +1,31 @@
+-- What a mail is when it is accepted, and how large a message is.
+use Rattle.std.specs.Prelude.{ℕ, ◌+◌, List, [], length, codes}
+use Rattle.mj_mail.specs.declared.mail.Body.{Body}
+use Rattle.mj_mail.specs.declared.mail.Body.TheVariants.{Original}
+use Rattle.mj_mail.specs.declared.mail.Mail.{Mail}
+use Rattle.mj_mail.specs.declared.mail.NewMail.{NewMail}
+use Rattle.mj_mail.specs.declared.mail.Stage.TheVariants.{Process}
+use Rattle.mj_mail.specs.Head.{written}
+
+-- the processor in which each accepted mail begins
+abbrev pub root : List ℕ
+root = codes "root"
+
+-- the mail that is accepted under a number: in `root`, with the body that came in
+abbrev pub first : ℕ → NewMail → Mail
+first number new = record {
+  name = record { number = number; path = [] };
+  sender = new.sender;
+  recipients = new.recipients;
+  stage = Process root;
+  head = new.head;
+  body = Original number (length new.body);
+}
+
+-- how many bytes a body has
+abbrev pub body_len : Body → ℕ
+body_len (Original number len) = len
+
+-- how many bytes a whole message has: the written head, the empty line and the body
+abbrev pub size : List (List ℕ × List ℕ) → Body → ℕ
+size head body = length (written head) + 2 + body_len body

@@ -1,0 +1,15 @@
+//! Mails: their names, what a processor finds in them, what becomes of them, and the meaning of a mail as the
+//! list of all facts about it.
+#![tactic(auto)]
+
+mod address;
+mod fact;
+mod head;
+mod mail;
+mod name;
+
+pub use address::{Address, Domain, Recipients};
+pub use fact::{Fact, Outcome};
+pub use head::{Field, Head};
+pub use mail::{Body, Mail, NewMail, Stage};
+pub use name::{Name, name_text, put_number};
