@@ -4,7 +4,7 @@ use Rattle.std.proofs.lemmas.Grind.{common_steps}
 use Rattle.std.proofs.lemmas.Bool.Decides.{nat_tests}
 use Rattle.std.proofs.lemmas.Bool.{and_parts}
 use Rattle.std.specs.List.{list_all, list_any, slice_split, onto_first, before_last, after_last}
-use Rattle.mj_address.specs.Grammar.{is_dot, is_label, is_label_byte, is_dotted_labels, IsLocal, IsDomain}
+use Rattle.mj_address.specs.Grammar.{is_dot, is_label, is_label_byte, is_dotted_labels, IsLocal, IsDomain, IsAddress}
 use Rattle.mj_address.specs.Reading.{is_at, spelled, local_of, domain_of, both_parts, address_of}
 use Rattle.mj_address.specs.declared.fault.AddressFault.TheVariants.{NoAt}
 use Rattle.mj_address.proofs.Cuts.{whole_by_parts, before_between, after_between}
@@ -77,8 +77,12 @@ found_at [] domain = refl
 found_at (b ∷ local) domain = grind (arith, found_at local domain)
 
 -- what is spelled so is read
-pub complete : (local domain : List ℕ) → IsLocal local → IsDomain domain → address_of (spelled (local, domain)) ≡ Ok (local, domain)
+complete : (local domain : List ℕ) → IsLocal local → IsDomain domain → address_of (spelled (local, domain)) ≡ Ok (local, domain)
 complete local domain l d =
     let none = no_at domain d in
     by_parts (spelled (local, domain)) local domain (found_at local domain) (before_between local domain none) (after_between local domain none)
     ∙ parts_read local domain l d
+
+-- so an address is read again
+pub read_again : (address : List ℕ × List ℕ) → IsAddress address → address_of (spelled address) ≡ Ok address
+read_again address form = complete address.0 address.1 form.local form.domain

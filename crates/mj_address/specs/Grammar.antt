@@ -47,3 +47,8 @@ pub record IsLocal (text : List ℕ) : Type 0 where
 pub record IsDomain (text : List ℕ) : Type 0 where
   pub short : length text ≤ 255
   pub form : IsTrue (is_dotted_labels text)
+
+-- An address: the pair of a local part and a domain.
+pub record IsAddress (address : List ℕ × List ℕ) : Type 0 where
+  pub local : IsLocal address.0
+  pub domain : IsDomain address.1

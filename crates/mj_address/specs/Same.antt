@@ -1,6 +1,7 @@
 -- When two addresses are the same, and lists of different ones.
 use Rattle.std.specs.Prelude.{ℕ, List, Bool, ◌&&◌}
-use Rattle.std.specs.List.{list_any, IsDistinct}
+use Rattle.std.specs.List.{list_any, AllByRecursion, IsDistinct}
+use Rattle.mj_address.specs.Grammar.{IsAddress}
 use Rattle.mj_terms.specs.Text.{same_text}
 
 -- The same local part at the same domain, both without regard to ASCII case.
@@ -14,3 +15,8 @@ has_same list address = list_any (same_address address) list
 -- No two of the list are the same.
 abbrev pub AreDifferent : List (List ℕ × List ℕ) → Type 0
 AreDifferent list = IsDistinct same_address list
+
+-- A list of recipients: addresses, no two the same.
+pub record AreRecipients (list : List (List ℕ × List ℕ)) : Type 0 where
+  pub addresses : AllByRecursion IsAddress list
+  pub different : AreDifferent list

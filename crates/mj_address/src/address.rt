@@ -4,7 +4,7 @@ ghost use Rattle.std.proofs.Common.{rules};
 ghost use Rattle.std.specs.Cmp.Rules.{comparing, hashing};
 ghost use Rattle.std.specs.Hash as fed;
 ghost use Rattle.std.specs.Str.{str_to_ascii_lowercase};
-ghost use Rattle.mj_address.specs.Grammar.{IsLocal, IsDomain};
+ghost use Rattle.mj_address.specs.Grammar.{IsLocal, IsDomain, IsAddress};
 ghost use Rattle.mj_address.specs.Reading.{address_of, spelled, Gives};
 ghost use Rattle.mj_address.specs.Same.{same_address};
 
@@ -25,13 +25,13 @@ pub struct Address {
 
 impl Model for Address {
     ghost use Rattle.std.specs.Prelude.{ℕ, List};
-    ghost use Rattle.mj_address.specs.Grammar.{IsLocal};
+    ghost use Rattle.mj_address.specs.Grammar.{IsAddress};
 
     ghost Value = { List ℕ × List ℕ };
 
     ghost view = { λ a. (a.local.items, a.domain) };
 
-    ghost invariant = { λ a. IsLocal a.local.items };
+    ghost invariant = { λ a. IsAddress (a.local.items, a.domain) };
 }
 
 impl Address {
@@ -61,7 +61,7 @@ impl Address {
     /// The local part, as it was spelled.
     pub fn local(&self) -> &[u8]
         ensures value { result.now ≡ self.now.0 }
-        ensures form { IsLocal self.now.0 }
+        ensures form { IsAddress self.now }
     {
         self.local.as_slice()
     }
@@ -69,11 +69,9 @@ impl Address {
     /// The domain.
     pub fn domain(&self) -> &Domain
         ensures value { result.now ≡ self.now.1 }
-        ensures form { IsDomain self.now.1 }
+        ensures form { IsAddress self.now }
     {
-        let domain = &self.domain;
-        let _form = domain.as_slice();
-        domain
+        &self.domain
     }
 
     /// Whether the two are the same: local part and domain are, without regard to ASCII case.
@@ -100,14 +98,18 @@ impl Address {
 
     /// Appends the local part, `@` and the domain, as they were spelled. Where memory runs out the
     /// bytes stay as they were.
+    #[tactic(auto, using(crate::proofs::Spellings::read_again))]
     pub fn write_to(&self, out: &mut Vec<u8>) -> Result<(), AllocError>
         ensures ok { OnOk result (out.new.items ≡ out.old.items ++ spelled self.now) }
         ensures err { OnErr result (out.new.items ≡ out.old.items) }
+        // What is written is read as this address again.
+        ensures again { address_of (spelled self.now) ≡ Ok self.now }
     {
+        let (local, domain) = (self.local(), self.domain().as_slice());
         out.reserve(self.written_len())?;
-        out.extend_from_slice(self.local())?;
+        out.extend_from_slice(local)?;
         out.push(b'@')?;
-        out.extend_from_slice(self.domain().as_slice())
+        out.extend_from_slice(domain)
     }
 }
 

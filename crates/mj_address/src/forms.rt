@@ -75,7 +75,8 @@ fn is_label(piece: &[u8]) -> bool
 pub fn is_dotted_labels(text: &[u8]) -> bool
     ensures { result ≡ is_dotted_labels text.now }
 {
-    text.split(|byte| *byte == b'.').all(|piece| is_label(piece))
+    text.split(|byte| *byte == b'.')
+        .all(|piece| is_label(piece))
 }
 
 /// Refuses a text that is no domain, with its fault.

@@ -16,5 +16,8 @@ mod recipients;
 pub use address::Address;
 pub use domain::Domain;
 pub use fault::AddressFault;
-pub use laws::{spelled_is_read, read_is_spelled};
+pub use laws::{read_is_spelled, spelled_is_read};
 pub use recipients::Recipients;
+
+#[cfg(test)]
+mod tests;

@@ -1,29 +1,32 @@
 //! Lists of recipients.
-ghost use Rattle.std.specs.Prelude.{◌≡◌, ◌↔◌, [], ◌∷◌, ◌++◌, not, length, slice_get, IsTrue, IfOk, OnErr, if◌then◌else◌};
+ghost use Rattle.std.specs.Prelude.{◌≡◌, ◌↔◌, ℕ, List, [], ◌∷◌, ◌++◌, not, length, slice_get, IsTrue, IfOk, OnErr, if◌then◌else◌};
+ghost use Rattle.std.specs.Iterator.Adapters.{IterYieldsInOrder};
 ghost use Rattle.std.specs.Option.{option_copied};
-ghost use Rattle.mj_address.specs.Same.{has_same, AreDifferent};
+ghost use Rattle.std.specs.Slice.Iter.{iter_rest};
+ghost use Rattle.mj_address.specs.Same.{has_same, AreRecipients};
 
 use crate::address::Address;
 use indexmap::IndexSet;
 use std::alloc::{AllocError, Global};
 use std::marker::Model;
+use std::slice::Iter;
 
 /// The recipients of a mail: addresses in the order of their first mention, no two the same. The one
 /// that came first keeps its spelling.
-#[derive(Drop)]
+#[derive(Debug, Drop)]
 pub struct Recipients {
     addresses: IndexSet<Address>,
 }
 
 impl Model for Recipients {
     ghost use Rattle.std.specs.Prelude.{ℕ, List};
-    ghost use Rattle.mj_address.specs.Same.{AreDifferent};
+    ghost use Rattle.mj_address.specs.Same.{AreRecipients};
 
     ghost Value = { List (List ℕ × List ℕ) };
 
     ghost view = { λ r. r.addresses.keys };
 
-    ghost invariant = { λ r. AreDifferent r.addresses.keys };
+    ghost invariant = { λ r. AreRecipients r.addresses.keys };
 }
 
 impl Recipients {
@@ -44,13 +47,14 @@ impl Recipients {
         ensures list { IfOk result (λ added. self.new ≡ (if added then self.old ++ address ∷ [] else self.old)) }
         ensures err { OnErr result (self.new ≡ self.old) }
     {
+        let _form = address.local();
         Ok(self.addresses.insert(address)?)
     }
 
     /// How many there are.
     pub fn len(&self) -> usize
         ensures count { result ≡ length self.now }
-        ensures different { AreDifferent self.now }
+        ensures form { AreRecipients self.now }
     {
         self.addresses.len()
     }
@@ -79,9 +83,18 @@ impl Recipients {
     /// All of them in order, as a slice.
     pub fn as_slice(&self) -> &[Address]
         ensures value { result.now ≡ self.now }
-        ensures different { AreDifferent self.now }
+        ensures form { AreRecipients self.now }
     {
         self.addresses.as_slice()
+    }
+
+    /// All of them in order.
+    pub fn iter(&self) -> Iter<'_, Address>
+        ensures rest { iter_rest result ≡ self.now }
+        ensures runs { IterYieldsInOrder (List ℕ × List ℕ) }
+        ensures form { AreRecipients self.now }
+    {
+        self.as_slice().iter()
     }
 
     /// An equal list, in the same order and spelled alike.
