@@ -1,10 +1,9 @@
 -- Spelling and reading undo each other.
-use Rattle.std.proofs.Common.{◌≡◌, ℕ, ◌≤◌, Bool, true, false, not, ◌||◌, ◌&&◌, List, [], ◌∷◌, ◌++◌, Result, Ok, Err, refl, sym, ap, ◌∙◌, arith, if◌then◌else◌}
-use Rattle.std.proofs.lemmas.Grind.{common_steps}
+use Rattle.std.proofs.Common.{◌≡◌, ℕ, Bool, true, false, ◌||◌, ◌&&◌, List, [], ◌∷◌, ◌++◌, Ok, Err, refl, sym, ap, ◌∙◌, arith, if◌then◌else◌}
 use Rattle.std.proofs.lemmas.Bool.Decides.{nat_tests}
 use Rattle.std.proofs.lemmas.Bool.{and_parts}
 use Rattle.std.specs.List.{list_all, list_any, slice_split, onto_first, before_last, after_last}
-use Rattle.mj_address.specs.Grammar.{is_dot, is_label, is_label_byte, is_dotted_labels, IsLocal, IsDomain, IsAddress}
+use Rattle.mj_address.specs.Grammar.{is_dot, is_label, is_label_byte, IsLocal, IsDomain, IsAddress}
 use Rattle.mj_address.specs.Reading.{is_at, spelled, local_of, domain_of, both_parts, address_of}
 use Rattle.mj_address.specs.declared.fault.AddressFault.TheVariants.{NoAt}
 use Rattle.mj_address.proofs.Cuts.{whole_by_parts, before_between, after_between}

@@ -1,7 +1,4 @@
-use Rattle.std.proofs.Common.{◌≡◌, ◌+◌, ◌-◌, ◌∷◌, ◌++◌, take, drop, length, sym, ◌∙◌}
-use Rattle.std.specs.List.{before_last, after_last}
-use Rattle.std.proofs.lemmas.List.Folds.{list_any_at}
-use Rattle.mj_address.specs.Reading.{is_at}
+use Rattle.std.proofs.Common.{◌+◌, sym, ◌∙◌}
 use Rattle.mj_address.proofs.Cuts.{before_at, after_at, none_by_place, to_end, whole_at}
 use Rattle.mj_address.proofs.forms.split_at_last_at.Goals as goal
 
