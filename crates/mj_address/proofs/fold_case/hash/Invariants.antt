@@ -1,0 +1,8 @@
+use Rattle.std.proofs.Common.{◌≡◌, take, fold, flat_map}
+use Rattle.std.specs.Hash as fed
+use Rattle.std.specs.Str.{str_to_ascii_lowercase}
+use Rattle.mj_address.proofs.fold_case.hash.Given as goal
+
+-- the bytes so far, lower-cased, were written behind the length
+abbrev pub invariant-loop-byte : goal.invariant-loop-byte
+invariant-loop-byte g l = l.state ≡ fold g.H.Hasher.write l.initial.state (flat_map fed.u8 (str_to_ascii_lowercase (take l.byte-index l.text)))

@@ -1,0 +1,12 @@
+use Rattle.std.proofs.Common.{rules, tests}
+use Rattle.std.proofs.lemmas.Iterator.Search.{all_from_yields_List}
+use Rattle.std.proofs.lemmas.Iterator.Splits.{YieldsList-from_slice_split}
+use Rattle.mj_address.specs.Grammar.{is_dot, is_atom}
+use Rattle.mj_address.proofs.forms.is_dot_atom.Goals as goal
+
+-- the pieces come in order, and each is asked
+pub returns : goal.returns
+returns c =
+    all_from_yields_List is_atom _ _ _ c.all.ensures.ran
+    (YieldsList-from_slice_split _ is_dot c.args.text.now c.split.ensures.rest c.split.ensures.done c.split.ensures.closure (λ x b q k. search (rules, tests)))
+    (λ x b q k. search (rules, tests))
