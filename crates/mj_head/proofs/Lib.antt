@@ -1,0 +1,5 @@
+pub mod Lines
+pub mod Names
+pub mod Steps
+pub mod Forms
+pub mod Whole

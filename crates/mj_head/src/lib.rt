@@ -1,0 +1,14 @@
+//! Heads of messages (RFC 5322, 2.2): reading, writing and changing their fields.
+#![tactic(auto)]
+
+mod cursor;
+mod fault;
+mod field;
+mod head;
+mod line;
+mod read;
+
+pub use fault::HeadFault;
+pub use field::Field;
+pub use head::Head;
+pub use read::{is_field_name, read_head};
