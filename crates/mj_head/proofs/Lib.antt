@@ -3,3 +3,4 @@ pub mod Names
 pub mod Steps
 pub mod Forms
 pub mod Whole
+pub mod Changes

@@ -1,5 +1,5 @@
 -- What the steps of the reader say.
-use Rattle.std.specs.Prelude.{◌≡◌, ℕ, ◌+◌, ◌≤◌, ◌==◌, ◌&&◌, if◌then◌else◌, Bool, true, false, List, [], ◌∷◌, ◌++◌, length, Option, Some, None}
+use Rattle.std.specs.Prelude.{◌≡◌, ℕ, ◌+◌, ◌≤◌, ◌==◌, ◌&&◌, if◌then◌else◌, Bool, true, false, List, [], ◌∷◌, ◌++◌, length, slice_set, slice_index_or, Option, Some, None}
 use Rattle.mj_head.specs.declared.fault.HeadFault.{HeadFault}
 use Rattle.mj_head.specs.declared.fault.HeadFault.TheVariants.{ContinuationFirst, NoColon, BadName, TooLong, Memory}
 use Rattle.mj_head.specs.declared.cursor.Cursor.{Cursor}
@@ -65,3 +65,7 @@ pub record ReadsField (field : RawField) (from to : Cursor) : Type 0 where
   pub fields : fields_of (head_at from) ≡ field ∷ fields_of (head_at to)
   pub ends : begins_continued (lines to.rest.now) ≡ false
   pub len : to.written ≡ from.written + length field.0 + length field.1 + 3
+
+-- the fields, of which the one at this place has this raw body now
+abbrev pub with_body : List RawField → ℕ → List ℕ → List RawField
+with_body fields place body = slice_set fields place ((slice_index_or fields place ([], [])).0, body)

@@ -1,8 +1,13 @@
 //! A head: a list of fields.
-ghost use Rattle.std.specs.Prelude.{◌≡◌, ◌+◌, ◌<◌, ◌≤◌, [], ◌∷◌, ◌++◌, true, false, length, IfOk, OnErr};
-ghost use Rattle.mj_head.specs.Head.{written, is_head};
+ghost use Rattle.std.specs.Prelude.{◌≡◌, ◌+◌, ◌<◌, ◌≤◌, ◌==◌, ◌↔◌, [], ◌∷◌, ◌++◌, true, false, not, length, filter, count_by, slice_get, IsTrue, Option, Result, IfOk, OnOk, OnErr, List, ℕ};
+ghost use Rattle.std.specs.Option.{option_copied};
+ghost use Rattle.mj_head.specs.Head.{written, is_head, is_field_name, head_of};
+ghost use Rattle.mj_head.specs.Reading.{with_body};
+ghost use Rattle.mj_head.specs.Fields.{is_named, unfolded, is_value, replaced_first, IsSomeHead};
 
-use crate::field::Field;
+use crate::cursor::WRITTEN_LIMIT;
+use crate::field::{Field, value_body};
+use crate::fields::{copy_fields, count_named, first_named, place_named, remove_named, set_body, write_fields, written_len};
 use std::alloc::{AllocError, Global};
 use std::marker::Model;
 
@@ -36,6 +41,27 @@ impl Head {
         }
     }
 
+    /// The number of fields.
+    pub fn len(&self) -> usize
+        ensures { result ≡ length self.now }
+    {
+        self.fields.len()
+    }
+
+    /// Whether there is no field.
+    pub fn is_empty(&self) -> bool
+        ensures { result ≡ (length self.now == 0) }
+    {
+        self.fields.is_empty()
+    }
+
+    /// The field at this place, from 0; `None` where there are no more than `place` fields.
+    pub fn get(&self, place: usize) -> Option<&Field>
+        ensures { option_copied result ≡ slice_get self.now place }
+    {
+        self.fields.get(place)
+    }
+
     /// The number of bytes of the written form, at most 65,536.
     pub fn written_len(&self) -> usize
         ensures len { result ≡ length (written self.now) }
@@ -45,10 +71,102 @@ impl Head {
         self.written_len
     }
 
-    /// The number of fields.
-    pub fn len(&self) -> usize
-        ensures { result ≡ length self.now }
+    /// How many fields have this name, without regard to ASCII case.
+    pub fn count(&self, name: &[u8]) -> usize
+        ensures { result ≡ count_by (is_named name.now) self.now }
     {
-        self.fields.len()
+        count_named(&self.fields, name)
+    }
+
+    /// Writes the head at the end: name, colon, raw body and CRLF of each field. After an error `out`
+    /// is as before.
+    pub fn write_to(&self, out: &mut Vec<u8>) -> Result<(), AllocError>
+        ensures ok { OnOk result (out.new.items ≡ out.old.items ++ written self.now) }
+        ensures err { OnErr result (out.new.items ≡ out.old.items) }
+    {
+        let before = out.len();
+        out.reserve(self.written_len)?;
+        let done = write_fields(&self.fields, out);
+        if done.is_err() {
+            out.truncate(before);
+        }
+        done
+    }
+
+    /// Takes out every field of this name, without regard to ASCII case.
+    pub fn remove(&mut self, name: &[u8])
+        ensures { self.new ≡ filter (λ field. not (is_named name.now field)) self.old }
+    {
+        remove_named(&mut self.fields, name);
+        self.written_len = written_len(&self.fields);
+    }
+
+    /// A head equal to this one, in memory of its own.
+    pub fn copy(&self, alloc: Global) -> Result<Head, AllocError>
+        ensures { IfOk result (λ head. head ≡ self.now) }
+    {
+        let fields = copy_fields(alloc, &self.fields)?;
+        Ok(Head {
+            fields,
+            written_len: self.written_len,
+        })
+    }
+
+    /// Adds a field at the end, whose raw body is a space and the value. The answer is `false`, with
+    /// the head as before, where the written form would have more than 65,536 bytes.
+    pub fn append(&mut self, name: &[u8], value: &[u8]) -> Result<bool, AllocError>
+        requires name { is_field_name name.now ≡ true }
+        requires value { is_value value.now ≡ true }
+        ensures fits { IfOk result (λ added. IsTrue added ↔ (length (written (self.old ++ (name.now, 32 ∷ value.now) ∷ [])) ≤ 65536)) }
+        ensures added { result ≡ Result.Ok true → self.new ≡ self.old ++ (name.now, 32 ∷ value.now) ∷ [] }
+        ensures refused { result ≡ Result.Ok false → self.new ≡ self.old }
+        ensures err { OnErr result (self.new ≡ self.old) }
+    {
+        let needed = name.len().saturating_add(value.len()).saturating_add(4);
+        if needed > WRITTEN_LIMIT - self.written_len {
+            return Ok(false);
+        }
+        let field = Field::from_value(*self.fields.allocator(), name, value)?;
+        self.fields.push(field)?;
+        self.written_len += needed;
+        Ok(true)
+    }
+
+    /// Gives the first field of this name, without regard to ASCII case, the raw body space and value;
+    /// its name stays as it is spelled. Where there is none, it adds such a field at the end. The
+    /// answer is `false`, with the head as before, where the written form would have more than 65,536
+    /// bytes.
+    pub fn replace_first(&mut self, name: &[u8], value: &[u8]) -> Result<bool, AllocError>
+        requires name { is_field_name name.now ≡ true }
+        requires value { is_value value.now ≡ true }
+        ensures fits { IfOk result (λ replaced. IsTrue replaced ↔ (length (written (replaced_first name.now (32 ∷ value.now) self.old)) ≤ 65536)) }
+        ensures replaced { result ≡ Result.Ok true → self.new ≡ replaced_first name.now (32 ∷ value.now) self.old }
+        ensures refused { result ≡ Result.Ok false → self.new ≡ self.old }
+        ensures err { OnErr result (self.new ≡ self.old) }
+    {
+        match place_named(&self.fields, name) {
+            Some(place) => self.replace_at(place, value),
+            None => self.append(name, value),
+        }
+    }
+
+    /// Gives the field at this place the raw body space and value, as `replace_first` does.
+    fn replace_at(&mut self, place: usize, value: &[u8]) -> Result<bool, AllocError>
+        requires place { place < length self.old }
+        requires value { is_value value.now ≡ true }
+        ensures fits { IfOk result (λ replaced. IsTrue replaced ↔ (length (written (with_body self.old place (32 ∷ value.now))) ≤ 65536)) }
+        ensures replaced { result ≡ Result.Ok true → self.new ≡ with_body self.old place (32 ∷ value.now) }
+        ensures refused { result ≡ Result.Ok false → self.new ≡ self.old }
+        ensures err { OnErr result (self.new ≡ self.old) }
+    {
+        let others = self.written_len - self.fields[place].body().len();
+        let needed = value.len().saturating_add(1);
+        if needed > WRITTEN_LIMIT - others {
+            return Ok(false);
+        }
+        let body = value_body(*self.fields.allocator(), value)?;
+        set_body(&mut self.fields, place, body);
+        self.written_len = others + needed;
+        Ok(true)
     }
 }

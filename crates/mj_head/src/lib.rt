@@ -4,6 +4,7 @@
 mod cursor;
 mod fault;
 mod field;
+mod fields;
 mod head;
 mod line;
 mod read;
