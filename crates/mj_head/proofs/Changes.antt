@@ -80,7 +80,7 @@ around fs k d lt = sym (take-append-drop k fs) ∙ ap (λ (t : List RawField). t
 pub set_around : (fs : List RawField) (k : ℕ) (v : RawField) → k < length fs → set fs k v ≡ take k fs ++ v ∷ drop (k + 1) fs
 set_around fs k v lt = set_split fs k v lt ∙ ap (λ (n : ℕ). take k fs ++ v ∷ drop n fs) (sym (add-one k))
 
-list_all_parts : {X : Type 0} (p : X → Bool) (xs ys : List X) → list_all p (xs ++ ys) ≡ true → (list_all p xs ≡ true) × (list_all p ys ≡ true)
+pub list_all_parts : {X : Type 0} (p : X → Bool) (xs ys : List X) → list_all p (xs ++ ys) ≡ true → (list_all p xs ≡ true) × (list_all p ys ≡ true)
 list_all_parts p [] ys h = (refl, h)
 list_all_parts p (x ∷ xs) ys h =
     let parts = and_parts (p x) (list_all p (xs ++ ys)) h in

@@ -4,3 +4,5 @@ pub mod Steps
 pub mod Forms
 pub mod Whole
 pub mod Changes
+pub mod Law
+pub mod Unfolding

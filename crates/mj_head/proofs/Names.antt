@@ -48,7 +48,7 @@ all_blank (b ∷ text) h =
     (blank_from (eqb b 32) (eqb b 9) (false_from_ne_true (not_in (32 ∷ 9 ∷ []) b) (λ e. h 0 (omega arith) (omega arith) e)))
     (all_blank text (λ k low high p. h (suc k) (omega arith) (omega arith) p))
 
-not_blank : (b : ℕ) → not_in (32 ∷ 9 ∷ []) b ≡ true → is_blank b ≡ false
+pub not_blank : (b : ℕ) → not_in (32 ∷ 9 ∷ []) b ≡ true → is_blank b ≡ false
 unfolding is_in
 not_blank b h = other_from (eqb b 32) (eqb b 9) h
 

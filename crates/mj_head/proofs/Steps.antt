@@ -42,7 +42,7 @@ abbrev first_is_empty : List (List ℕ) → Bool
 first_is_empty [] = true
 first_is_empty (line ∷ rest) = eqb (length (content line)) 0
 
-no_zero : (n : ℕ) → eqb (suc n) 0 ≡ false
+pub no_zero : (n : ℕ) → eqb (suc n) 0 ≡ false
 no_zero n = ne_eqb (suc n) 0 (λ e. absurd (omega arith))
 
 head_is_empty : (ls : List (List ℕ)) → eqb (length (head_lines ls)) 0 ≡ first_is_empty ls
@@ -60,7 +60,7 @@ content_is_empty b line =
       | inr e ↦ ap (λ (t : List ℕ). eqb (length t) 0) (cond-false (is_line_end (b ∷ line)) [] (b ∷ content line) e) ∙ no_zero (length (content line)) ∙ sym e
     ]
 
-no_end : (a b : ℕ) (line : List ℕ) → eqb b 10 ≡ false → is_line_end (a ∷ b ∷ line) ≡ false
+pub no_end : (a b : ℕ) (line : List ℕ) → eqb b 10 ≡ false → is_line_end (a ∷ b ∷ line) ≡ false
 no_end a b [] e = and_right (eqb a 13) (eqb b 10) e
 no_end a b (c ∷ line) e = refl
 
@@ -185,14 +185,14 @@ GoesOn_line from to line h some form number len short = record {
 
 -- ---- continuations
 
-is_some_continued : (line : List ℕ) → is_continuation line ≡ true → eqb (length line) 0 ≡ false
+pub is_some_continued : (line : List ℕ) → is_continuation line ≡ true → eqb (length line) 0 ≡ false
 is_some_continued [] e = absurd (false≢true e)
 is_some_continued (b ∷ line) e = no_zero (length line)
 
-added_continued : (line : List ℕ) → is_continuation line ≡ true → added_by line ≡ length line + 2
+pub added_continued : (line : List ℕ) → is_continuation line ≡ true → added_by line ≡ length line + 2
 added_continued line e = cond-true (is_continuation line) (length line + 2) _ e
 
-form_continued : (k : ℕ) (line : List ℕ) → is_continuation line ≡ true → 1 < k → form_fault k line ≡ None
+pub form_continued : (k : ℕ) (line : List ℕ) → is_continuation line ≡ true → 1 < k → form_fault k line ≡ None
 form_continued k line e later =
     cond-true (is_continuation line) (cond (eqb k 1) (Some (ContinuationFirst k)) None) _ e ∙ cond-false (eqb k 1) (Some (ContinuationFirst k)) None (ne_eqb k 1 (λ one. absurd (omega arith)))
 

@@ -1,5 +1,5 @@
 -- What the steps of the reader say.
-use Rattle.std.specs.Prelude.{◌≡◌, ℕ, ◌+◌, ◌≤◌, ◌==◌, ◌&&◌, if◌then◌else◌, Bool, true, false, List, [], ◌∷◌, ◌++◌, length, slice_set, slice_index_or, Option, Some, None}
+use Rattle.std.specs.Prelude.{◌≡◌, ℕ, ◌+◌, ◌-◌, ◌≤◌, nat_lt, take, slice_index, ◌==◌, ◌&&◌, if◌then◌else◌, Bool, true, false, List, [], ◌∷◌, ◌++◌, length, slice_set, slice_index_or, Option, Some, None}
 use Rattle.mj_head.specs.declared.fault.HeadFault.{HeadFault}
 use Rattle.mj_head.specs.declared.fault.HeadFault.TheVariants.{ContinuationFirst, NoColon, BadName, TooLong, Memory}
 use Rattle.mj_head.specs.declared.cursor.Cursor.{Cursor}
@@ -69,3 +69,7 @@ pub record ReadsField (field : RawField) (from to : Cursor) : Type 0 where
 -- the fields, of which the one at this place has this raw body now
 abbrev pub with_body : List RawField → ℕ → List ℕ → List RawField
 with_body fields place body = slice_set fields place ((slice_index_or fields place ([], [])).0, body)
+
+-- the line whose LF stands at this place: without the CRLF at its end, or with the bare LF
+abbrev pub line_to : List ℕ → ℕ → List ℕ
+line_to body end = if nat_lt 0 end && slice_index body (end - 1) == 13 then take (end - 1) body else take (end + 1) body

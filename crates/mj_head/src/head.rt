@@ -1,6 +1,6 @@
 //! A head: a list of fields.
 ghost use Rattle.std.specs.Prelude.{◌≡◌, ◌+◌, ◌<◌, ◌≤◌, ◌==◌, ◌↔◌, [], ◌∷◌, ◌++◌, true, false, not, length, filter, count_by, slice_get, IsTrue, Option, Result, IfOk, OnOk, OnErr, List, ℕ};
-ghost use Rattle.std.specs.Option.{option_copied};
+ghost use Rattle.std.specs.Option.{option_copied, option_map};
 ghost use Rattle.mj_head.specs.Head.{written, is_head, is_field_name, head_of};
 ghost use Rattle.mj_head.specs.Reading.{with_body};
 ghost use Rattle.mj_head.specs.Fields.{is_named, unfolded, is_value, replaced_first, IsSomeHead};
@@ -8,6 +8,8 @@ ghost use Rattle.mj_head.specs.Fields.{is_named, unfolded, is_value, replaced_fi
 use crate::cursor::WRITTEN_LIMIT;
 use crate::field::{Field, value_body};
 use crate::fields::{copy_fields, count_named, first_named, place_named, remove_named, set_body, write_fields, written_len};
+use crate::read::is_field;
+use crate::unfold::unfold;
 use std::alloc::{AllocError, Global};
 use std::marker::Model;
 
@@ -169,4 +171,47 @@ impl Head {
         self.written_len = others + needed;
         Ok(true)
     }
+
+    /// Adds the field of this name and raw body at the end. The answer is `false`, with the head as
+    /// before, exactly where no text has the head with this field: the name has not the form of a
+    /// name, a LF of the body doesn't stand between a CR and a blank, or the written form would have
+    /// more than 65,536 bytes.
+    pub fn add_raw(&mut self, name: &[u8], body: &[u8]) -> Result<bool, AllocError>
+        ensures answer { IfOk result (λ added. IsTrue added ↔ IsSomeHead (self.old ++ (name.now, body.now) ∷ [])) }
+        ensures added { result ≡ Result.Ok true → self.new ≡ self.old ++ (name.now, body.now) ∷ [] }
+        ensures refused { result ≡ Result.Ok false → self.new ≡ self.old }
+        ensures err { OnErr result (self.new ≡ self.old) }
+    {
+        let needed = name.len().saturating_add(body.len()).saturating_add(3);
+        if needed > WRITTEN_LIMIT - self.written_len || !is_field(name, body) {
+            return Ok(false);
+        }
+        let field = Field::from_parts(*self.fields.allocator(), name, body)?;
+        self.fields.push(field)?;
+        self.written_len += needed;
+        Ok(true)
+    }
+
+    /// What the first field of this name says, without regard to ASCII case: its raw body without its
+    /// CRLFs (RFC 5322, 2.2.3), and without spaces and tabs at both ends. `None` exactly where no
+    /// field has this name.
+    pub fn unfolded(&self, alloc: Global, name: &[u8]) -> Result<Option<Vec<u8>>, AllocError>
+        ensures { IfOk result (λ value. option_map (λ text. text.items) value ≡ unfolded name.now self.now) }
+    {
+        match first_named(&self.fields, name) {
+            Some(field) => Ok(Some(unfold(alloc, field.body())?)),
+            None => Ok(None),
+        }
+    }
+}
+
+/// The written form of a head: name, colon, raw body and CRLF of each field (RFC 5322, 2.2).
+pub fn write_head(alloc: Global, head: &Head) -> Result<Vec<u8>, AllocError>
+    ensures written { IfOk result (λ text. text.items ≡ written head.now) }
+    // With an empty line behind it, it is read as this head, whatever follows.
+    ensures read_again { IfOk result (λ text. (body : List ℕ) → head_of (text.items ++ 13 ∷ 10 ∷ body) ≡ Result.Ok (head.now, length text.items + 2)) }
+{
+    let mut text = Vec::with_capacity(alloc, head.written_len())?;
+    head.write_to(&mut text)?;
+    Ok(text)
 }

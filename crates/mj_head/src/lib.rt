@@ -8,8 +8,9 @@ mod fields;
 mod head;
 mod line;
 mod read;
+mod unfold;
 
 pub use fault::HeadFault;
 pub use field::Field;
-pub use head::Head;
+pub use head::{Head, write_head};
 pub use read::{is_field_name, read_head};

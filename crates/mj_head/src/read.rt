@@ -2,7 +2,7 @@
 ghost use Rattle.std.specs.Prelude.{◌≡◌, ◌+◌, ◌<◌, ◌≤◌, [], ◌∷◌, true, false, length, Option, IfOk, IfErr, MatchOption, IsTrue, ◌↔◌, ◌==◌, None};
 ghost use Rattle.std.specs.List.{list_all, list_any};
 ghost use Rattle.mj_terms.specs.Text.{trim_back};
-ghost use Rattle.mj_head.specs.Head.{Gives, lines, body_place, head_lines, form_fault, is_continuation, is_field_name, is_name_byte, begins_blank, before_colon, after_colon, head_of};
+ghost use Rattle.mj_head.specs.Head.{Gives, lines, body_place, head_lines, form_fault, is_continuation, is_field, is_field_name, is_name_byte, is_raw_body, begins_blank, before_colon, after_colon, head_of};
 ghost use Rattle.mj_head.specs.Reading.{begins_continued, IsFault, BeginsField, Continues, ReadsField, head_at, fault_from, empty_line_len};
 
 use crate::cursor::Cursor;
@@ -20,6 +20,30 @@ pub fn is_field_name(name: &[u8]) -> bool
 {
     let named = are_name_bytes(name);
     !name.is_empty() && named
+}
+
+/// Whether a name and a raw body are a field's: each LF of the body stands between a CR and a blank.
+pub(crate) fn is_field(name: &[u8], body: &[u8]) -> bool
+    ensures { result ≡ is_field (name.now, body.now) }
+{
+    let folded = is_raw_body(body);
+    is_field_name(name) && folded
+}
+
+fn is_raw_body(body: &[u8]) -> bool
+    ensures { result ≡ is_raw_body body.now }
+{
+    let mut before = b':';
+    let mut rest = body;
+    while let Some((byte, behind)) = rest.split_first() {
+        let folds = before == b'\r' && begins_with_blank(behind);
+        if *byte == b'\n' && !folds {
+            return false;
+        }
+        before = *byte;
+        rest = behind;
+    }
+    true
 }
 
 fn are_name_bytes(name: &[u8]) -> bool
@@ -44,7 +68,7 @@ fn begins_with_blank(bytes: &[u8]) -> bool
 }
 
 /// The text without the blanks at its end.
-fn without_blanks_at_end(text: &[u8]) -> &[u8]
+pub(crate) fn without_blanks_at_end(text: &[u8]) -> &[u8]
     ensures { result.now ≡ trim_back text.now }
 {
     match text.rfind_not_byteset(b" \t") {
