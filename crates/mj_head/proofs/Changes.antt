@@ -1,12 +1,12 @@
 -- What a change of the fields does to the head.
-use Rattle.std.proofs.Common.{◌≡◌, ℕ, suc, ◌+◌, ◌<◌, ◌≤◌, Bool, true, false, not, ◌&&◌, ◌||◌, cond, eqb, leb, ltb, Some, None, add-one, List, [], ◌∷◌, ◌++◌, length, get_or, take, drop, set, refl, sym, ap, subst, ◌∙◌, append_assoc, arith, inl, inr}
+use Rattle.std.proofs.Common.{◌≡◌, ℕ, ◌+◌, ◌<◌, ◌≤◌, Bool, true, false, not, ◌&&◌, ◌||◌, cond, eqb, leb, ltb, Some, None, add-one, List, [], ◌∷◌, ◌++◌, length, get_or, take, drop, set, refl, sym, ap, subst, ◌∙◌, arith, inl, inr}
 use Rattle.std.specs.Prelude.{filter, position}
 use Rattle.std.specs.List.{list_all, position_or_len}
-use Rattle.std.proofs.lemmas.Bool.{and_parts, and_from, leb-true, le-leb, cond-true, cond-false, cond_both, cases_Bool, not_from_true, not_from_false, not-true, or_parts, cases_lt, lt-ltb, le-ltb}
+use Rattle.std.proofs.lemmas.Bool.{and_parts, and_from, leb-true, le-leb, cond-true, cond-false, cond_both, not_from_false, not-true, or_parts, cases_lt, lt-ltb, le-ltb}
 use Rattle.std.proofs.lemmas.List.{length-append, take-append-drop, drop_more, set_split, get_or-take, length-take, take_all}
 use Rattle.std.proofs.lemmas.List.Sums.{list_all-from_AllPass, fails_before_first, passes_at_first}
 use Rattle.mj_head.specs.Head.{RawField, written, is_field, is_head, is_field_name, is_raw_body, is_folded, begins_blank}
-use Rattle.mj_head.specs.Fields.{is_named, is_value, replaced_first}
+use Rattle.mj_head.specs.Fields.{is_named, is_field_value, replaced_first}
 use Rattle.mj_head.specs.Reading.{with_body}
 use Rattle.mj_head.proofs.Whole.{length-written_push}
 
@@ -31,17 +31,17 @@ pub is_head_push : (fs : List RawField) (f : RawField) → is_head fs ≡ true �
 is_head_push fs f h formed short =
     is_head_from (fs ++ f ∷ []) (list_all-append is_field fs (f ∷ []) (head_fields fs h) (and_from (is_field f) true formed refl)) (omega (arith, length-written_push fs f, short))
 
-value_folded : (before : ℕ) (value : List ℕ) → is_value value ≡ true → is_folded before value ≡ true
+value_folded : (before : ℕ) (value : List ℕ) → is_field_value value ≡ true → is_folded before value ≡ true
 value_folded before [] h = refl
 value_folded before (b ∷ value) h =
-    let parts = and_parts (not (eqb b 13 || eqb b 10)) (is_value value) h in
+    let parts = and_parts (not (eqb b 13 || eqb b 10)) (is_field_value value) h in
     let other : eqb b 10 ≡ false = (or_parts (eqb b 13) (eqb b 10) (not-true (eqb b 13 || eqb b 10) parts.0)).1 in
     and_from (cond (eqb b 10) (eqb before 13 && begins_blank value) true) (is_folded b value)
     (cond-false (eqb b 10) (eqb before 13 && begins_blank value) true other)
     (value_folded b value parts.1)
 
 -- a field with a value has the form of a field
-pub value_formed : (name value : List ℕ) → is_field_name name ≡ true → is_value value ≡ true → is_field (name, 32 ∷ value) ≡ true
+pub value_formed : (name value : List ℕ) → is_field_name name ≡ true → is_field_value value ≡ true → is_field (name, 32 ∷ value) ≡ true
 value_formed name value n v = and_from (is_field_name name) (is_raw_body (32 ∷ value)) n (value_folded 32 value v)
 
 -- ---- fewer fields
@@ -92,12 +92,12 @@ pub length-with_body : (fs : List RawField) (k : ℕ) (body : List ℕ) → k < 
 length-with_body fs k body lt =
     let f = get_or fs k ([], []) in
     let old : length (written fs) ≡ length (written (take k fs)) + length (written (f ∷ drop (k + 1) fs)) =
-        ap (λ (t : List RawField). length (written t)) (around fs k ([], []) lt) ∙ length-written-append (take k fs) (f ∷ drop (k + 1) fs) in
+    ap (λ (t : List RawField). length (written t)) (around fs k ([], []) lt) ∙ length-written-append (take k fs) (f ∷ drop (k + 1) fs) in
     let new : length (written (with_body fs k body)) ≡ length (written (take k fs)) + length (written ((f.0, body) ∷ drop (k + 1) fs)) =
-        ap (λ (t : List RawField). length (written t)) (set_around fs k (f.0, body) lt) ∙ length-written-append (take k fs) ((f.0, body) ∷ drop (k + 1) fs) in
+    ap (λ (t : List RawField). length (written t)) (set_around fs k (f.0, body) lt) ∙ length-written-append (take k fs) ((f.0, body) ∷ drop (k + 1) fs) in
     omega (arith, old, new, length-written-cons f (drop (k + 1) fs), length-written-cons (f.0, body) (drop (k + 1) fs))
 
-pub is_head_with_body : (fs : List RawField) (k : ℕ) (value : List ℕ) → k < length fs → is_head fs ≡ true → is_value value ≡ true → length (written (with_body fs k (32 ∷ value))) ≤ 65536 → is_head (with_body fs k (32 ∷ value)) ≡ true
+pub is_head_with_body : (fs : List RawField) (k : ℕ) (value : List ℕ) → k < length fs → is_head fs ≡ true → is_field_value value ≡ true → length (written (with_body fs k (32 ∷ value))) ≤ 65536 → is_head (with_body fs k (32 ∷ value)) ≡ true
 is_head_with_body fs k value lt h v short =
     let f = get_or fs k ([], []) in
     let all = list_all_parts is_field (take k fs) (f ∷ drop (k + 1) fs) (ap (list_all is_field) (sym (around fs k ([], []) lt)) ∙ head_fields fs h) in
@@ -105,7 +105,7 @@ is_head_with_body fs k value lt h v short =
     let named = (and_parts (is_field_name f.0) (is_raw_body f.1) here.0).0 in
     is_head_from (with_body fs k (32 ∷ value))
     (ap (list_all is_field) (set_around fs k (f.0, 32 ∷ value) lt)
-      ∙ list_all-append is_field (take k fs) ((f.0, 32 ∷ value) ∷ drop (k + 1) fs) all.0 (and_from (is_field (f.0, 32 ∷ value)) (list_all is_field (drop (k + 1) fs)) (value_formed f.0 value named v) here.1))
+    ∙ list_all-append is_field (take k fs) ((f.0, 32 ∷ value) ∷ drop (k + 1) fs) all.0 (and_from (is_field (f.0, 32 ∷ value)) (list_all is_field (drop (k + 1) fs)) (value_formed f.0 value named v) here.1))
     short
 
 replaced_first_none : (name body : List ℕ) (fs : List RawField) → list_all (λ f. not (is_named name f)) fs ≡ true → replaced_first name body fs ≡ fs ++ (name, body) ∷ []
@@ -130,21 +130,21 @@ replaced_first_is name body fs k e =
     let at = position_or_len (is_named name) fs in
     elim (cases_lt at (length fs)) [
       | inl lt ↦
-        let same : k ≡ at = some_same k at (e ∙ cond-true (ltb at (length fs)) (Some at) None (lt-ltb at (length fs) lt)) in
-        let within : k < length fs = omega arith in
-        let named : is_named name (get_or fs k ([], [])) ≡ true = ap (λ i. is_named name (get_or fs i ([], []))) same ∙ passes_at_first (is_named name) fs ([], []) lt in
-        (
-          within,
-          ap (replaced_first name body) (around fs k ([], []) within)
-          ∙ replaced_first_at name body (take k fs) (drop (k + 1) fs) (get_or fs k ([], [])) (all_before (is_named name) fs k (omega arith)) named
-          ∙ sym (set_around fs k ((get_or fs k ([], [])).0, body) within),
-        )
+          let same : k ≡ at = some_same k at (e ∙ cond-true (ltb at (length fs)) (Some at) None (lt-ltb at (length fs) lt)) in
+          let within : k < length fs = omega arith in
+          let named : is_named name (get_or fs k ([], [])) ≡ true = ap (λ i. is_named name (get_or fs i ([], []))) same ∙ passes_at_first (is_named name) fs ([], []) lt in (
+            within,
+            ap (replaced_first name body) (around fs k ([], []) within)
+                ∙ replaced_first_at name body (take k fs) (drop (k + 1) fs) (get_or fs k ([], [])) (all_before (is_named name) fs k (omega arith)) named
+                ∙ sym (set_around fs k ((get_or fs k ([], [])).0, body) within),
+          )
       | inr le ↦ absurd (some_none k (e ∙ cond-false (ltb at (length fs)) (Some at) None (le-ltb at (length fs) le)))
     ] where
-  some_same : (a b : ℕ) → Some a ≡ Some b → a ≡ b
-  some_same a b h = cc
-  some_none : (a : ℕ) → Some a ≡ None → ⊥
-  some_none a h = cc
+      some_same : (a b : ℕ) → Some a ≡ Some b → a ≡ b
+      some_same a b h = cc
+
+      some_none : (a : ℕ) → Some a ≡ None → ⊥
+      some_none a h = cc
 
 pub replaced_first_added : (name body : List ℕ) (fs : List RawField) → None ≡ position (is_named name) fs → replaced_first name body fs ≡ fs ++ (name, body) ∷ []
 replaced_first_added name body fs e =
@@ -153,5 +153,5 @@ replaced_first_added name body fs e =
       | inl lt ↦ absurd (none_some at (e ∙ cond-true (ltb at (length fs)) (Some at) None (lt-ltb at (length fs) lt)))
       | inr le ↦ replaced_first_none name body fs (subst (λ (t : List RawField). list_all (λ g. not (is_named name g)) t ≡ true) (take_all (length fs) fs (omega arith)) (all_before (is_named name) fs (length fs) le))
     ] where
-  none_some : (a : ℕ) → None ≡ Some a → ⊥
-  none_some a h = cc
+      none_some : (a : ℕ) → None ≡ Some a → ⊥
+      none_some a h = cc

@@ -1,11 +1,10 @@
 -- The fields of a text without a fault have the form of fields.
-use Rattle.std.proofs.Common.{◌≡◌, ℕ, ◌+◌, ◌≤◌, Bool, true, false, not, ◌&&◌, cond, eqb, ltb, inl, inr, List, [], ◌∷◌, ◌++◌, length, Option, Some, None, refl, sym, ap, subst, ◌∙◌, arith}
+use Rattle.std.proofs.Common.{◌≡◌, ℕ, ◌+◌, ◌≤◌, Bool, true, false, not, ◌&&◌, cond, eqb, ltb, inl, inr, List, [], ◌∷◌, ◌++◌, length, Option, Some, None, refl, sym, ap, ◌∙◌, arith}
 use Rattle.std.specs.List.{list_all, list_any}
-use Rattle.std.proofs.lemmas.Bool.{cond-true, cond-false, cond_both, cases_Bool, and_parts, and_from, false≢true, not-true, not_from_false, ltb-false}
+use Rattle.std.proofs.lemmas.Bool.{cond-true, cond-false, cond_both, cases_Bool, and_parts, and_from, false≢true, ltb-false}
 use Rattle.std.proofs.lemmas.List.{length-append}
-use Rattle.mj_terms.specs.Text.{is_blank}
 use Rattle.mj_head.specs.declared.fault.HeadFault.{HeadFault}
-use Rattle.mj_head.specs.declared.fault.HeadFault.TheVariants.{ContinuationFirst, NoColon, BadName, TooLong, Memory}
+use Rattle.mj_head.specs.declared.fault.HeadFault.TheVariants.{ContinuationFirst, NoColon, BadName, TooLong}
 use Rattle.mj_head.specs.Head.{RawField, written, lines, lengthened, content, is_line_end, head_lines, is_continuation, begins_blank, continued, after_colon, name_of, is_field_name, is_field, is_folded, is_raw_body, fields_of, added_by, form_fault, line_fault, or_else, first_fault}
 use Rattle.mj_head.proofs.Lines.{Lacks, Lacks-cons, Lacks-first, Lacks-rest}
 
@@ -93,8 +92,8 @@ fields_formed limit k w (line ∷ ls) e h =
     cond_both (is_continuation line) (fields_of ls) ((name_of line, body) ∷ fields_of ls) (λ fs. list_all is_field fs ≡ true)
     (λ _. rest)
     (λ f. and_from (is_field (name_of line, body)) (list_all is_field (fields_of ls))
-      (and_from (is_field_name (name_of line)) (is_raw_body body) (form_named k line form f) (folded_over 58 (after_colon line) (continued ls) (Lacks-after_colon line p.0) (folded_rest ls p.1)))
-      rest)
+    (and_from (is_field_name (name_of line)) (is_raw_body body) (form_named k line form f) (folded_over 58 (after_colon line) (continued ls) (Lacks-after_colon line p.0) (folded_rest ls p.1)))
+    rest)
 
 -- lines without a fault are written in at most `limit` bytes
 long_none : (limit n : ℕ) (fault : HeadFault) → cond (ltb limit n) (Some fault) None ≡ None → n ≤ limit
@@ -103,8 +102,8 @@ long_none limit n fault e =
       | inl long ↦ absurd (some_none fault (sym (cond-true (ltb limit n) (Some fault) None long) ∙ e))
       | inr short ↦ ltb-false limit n short
     ] where
-  some_none : (x : HeadFault) → Some x ≡ None → ⊥
-  some_none x h = cc
+      some_none : (x : HeadFault) → Some x ≡ None → ⊥
+      some_none x h = cc
 
 pub fields_short : (limit k w : ℕ) (ls : List (List ℕ)) → w ≤ limit → first_fault limit k w ls ≡ None → w + length (continued ls) + length (written (fields_of ls)) ≤ limit
 fields_short limit k w [] le e = omega arith
@@ -116,15 +115,15 @@ fields_short limit k w (line ∷ ls) le e =
     let field : RawField = (name_of line, body) in
     elim (cases_Bool (is_continuation line)) [
       | inl c ↦
-        let added : added_by line ≡ length line + 2 = cond-true (is_continuation line) (length line + 2) (length (name_of line) + length (after_colon line) + 3) c in
-        let more : length (continued (line ∷ ls)) ≡ length line + 2 + length (continued ls) =
-            ap length (cond-true (is_continuation line) ((13 ∷ 10 ∷ line) ++ continued ls) [] c) ∙ (omega (arith, length-append line (continued ls))) in
-        let same : length (written (fields_of (line ∷ ls))) ≡ length (written (fields_of ls)) = ap (λ (fs : List RawField). length (written fs)) (cond-true (is_continuation line) (fields_of ls) (field ∷ fields_of ls) c) in
-        omega (arith, added, more, same, rest)
+          let added : added_by line ≡ length line + 2 = cond-true (is_continuation line) (length line + 2) (length (name_of line) + length (after_colon line) + 3) c in
+          let more : length (continued (line ∷ ls)) ≡ length line + 2 + length (continued ls) =
+          ap length (cond-true (is_continuation line) ((13 ∷ 10 ∷ line) ++ continued ls) [] c) ∙ (omega (arith, length-append line (continued ls))) in
+          let same : length (written (fields_of (line ∷ ls))) ≡ length (written (fields_of ls)) = ap (λ (fs : List RawField). length (written fs)) (cond-true (is_continuation line) (fields_of ls) (field ∷ fields_of ls) c) in
+          omega (arith, added, more, same, rest)
       | inr c ↦
-        let added : added_by line ≡ length (name_of line) + length (after_colon line) + 3 = cond-false (is_continuation line) (length line + 2) (length (name_of line) + length (after_colon line) + 3) c in
-        let more : length (continued (line ∷ ls)) ≡ 0 = ap length (cond-false (is_continuation line) ((13 ∷ 10 ∷ line) ++ continued ls) [] c) in
-        let new : length (written (fields_of (line ∷ ls))) ≡ length (written (field ∷ fields_of ls)) = ap (λ (fs : List RawField). length (written fs)) (cond-false (is_continuation line) (fields_of ls) (field ∷ fields_of ls) c) in
-        let len = length-append (name_of line) ((58 ∷ body) ++ ((13 ∷ 10 ∷ []) ++ written (fields_of ls))) in
-        omega (arith, added, more, new, len, length-append body ((13 ∷ 10 ∷ []) ++ written (fields_of ls)), length-append (after_colon line) (continued ls), rest)
+          let added : added_by line ≡ length (name_of line) + length (after_colon line) + 3 = cond-false (is_continuation line) (length line + 2) (length (name_of line) + length (after_colon line) + 3) c in
+          let more : length (continued (line ∷ ls)) ≡ 0 = ap length (cond-false (is_continuation line) ((13 ∷ 10 ∷ line) ++ continued ls) [] c) in
+          let new : length (written (fields_of (line ∷ ls))) ≡ length (written (field ∷ fields_of ls)) = ap (λ (fs : List RawField). length (written fs)) (cond-false (is_continuation line) (fields_of ls) (field ∷ fields_of ls) c) in
+          let len = length-append (name_of line) ((58 ∷ body) ++ ((13 ∷ 10 ∷ []) ++ written (fields_of ls))) in
+          omega (arith, added, more, new, len, length-append body ((13 ∷ 10 ∷ []) ++ written (fields_of ls)), length-append (after_colon line) (continued ls), rest)
     ]

@@ -1,18 +1,18 @@
 -- What a head's written form and an empty line are read as, whatever follows.
-use Rattle.std.proofs.Common.{◌≡◌, ℕ, suc, ◌+◌, ◌<◌, ◌≤◌, Bool, true, false, not, ◌&&◌, ◌||◌, cond, eqb, leb, inl, inr, List, [], ◌∷◌, ◌++◌, length, Option, Some, None, Result, Ok, Err, refl, sym, ap, subst, ◌∙◌, append_assoc, arith}
+use Rattle.std.proofs.Common.{◌≡◌, ℕ, suc, ◌+◌, ◌<◌, ◌≤◌, Bool, true, false, not, ◌&&◌, cond, eqb, leb, inl, inr, List, [], ◌∷◌, ◌++◌, length, Option, Some, None, Ok, refl, sym, ap, subst, ◌∙◌, append_assoc, arith}
 use Rattle.std.specs.List.{list_all, list_any}
-use Rattle.std.proofs.lemmas.Bool.{cond-true, cond-false, cases_Bool, and_parts, and_from, or_from, eqb-true, leb-true, not-true, not_from_true, ne_eqb, false≢true, true≢false}
+use Rattle.std.proofs.lemmas.Bool.{cond-true, cond-false, cases_Bool, and_parts, or_from, eqb-true, leb-true, not-true, ne_eqb, false≢true}
 use Rattle.std.proofs.lemmas.List.{length-append, append-nil}
 use Rattle.mj_terms.specs.Text.{is_blank, trim_back}
 use Rattle.mj_head.specs.declared.fault.HeadFault.{HeadFault}
-use Rattle.mj_head.specs.declared.fault.HeadFault.TheVariants.{ContinuationFirst, NoColon, BadName, TooLong}
-use Rattle.mj_head.specs.Head.{RawField, lines, lengthened, content, is_line_end, head_lines, body_place, is_continuation, begins_blank, before_colon, after_colon, name_of, is_name_byte, is_field_name, is_folded, is_raw_body, is_field, is_head, continued, fields_of, written, added_by, form_fault, first_fault, unless, head_of}
+use Rattle.mj_head.specs.declared.fault.HeadFault.TheVariants.{ContinuationFirst, NoColon, BadName}
+use Rattle.mj_head.specs.Head.{RawField, lines, lengthened, content, is_line_end, head_lines, body_place, is_continuation, begins_blank, after_colon, name_of, is_name_byte, is_field_name, is_folded, is_raw_body, is_field, is_head, continued, fields_of, written, added_by, form_fault, first_fault, unless, head_of}
 use Rattle.mj_head.specs.Fields.{IsSomeHead}
 use Rattle.mj_head.specs.Reading.{begins_continued}
 use Rattle.mj_head.proofs.Lines.{Lacks, Lacks-cons, Lacks-first, Lacks-rest, cases_last}
 use Rattle.mj_head.proofs.Names.{has_colon, before_colon_at, after_colon_at, trim_back_at}
 use Rattle.mj_head.proofs.Steps.{begins, no_end, no_zero, form_continued, added_continued, is_some_continued, fault_step}
-use Rattle.mj_head.proofs.Forms.{lacks, lines_lack, fields_formed, fields_short}
+use Rattle.mj_head.proofs.Forms.{lines_lack, fields_formed, fields_short}
 use Rattle.mj_head.proofs.Whole.{length-written_push}
 use Rattle.mj_head.proofs.Changes.{head_fields, head_short, is_head_from, list_all_parts, length-written-cons}
 
@@ -79,16 +79,16 @@ shows_fold body tail blank h =
       inner = λ a. refl;
       short = omega arith;
       said =
-        ap continued head
-        ∙ cond-true (is_continuation line) ((13 ∷ 10 ∷ line) ++ continued (head_lines h.more)) [] continues
-        ∙ ap (λ (t : List ℕ). 13 ∷ 10 ∷ t) h.said;
+          ap continued head
+          ∙ cond-true (is_continuation line) ((13 ∷ 10 ∷ line) ++ continued (head_lines h.more)) [] continues
+          ∙ ap (λ (t : List ℕ). 13 ∷ 10 ∷ t) h.said;
       fields = ap fields_of head ∙ cond-true (is_continuation line) (fields_of (head_lines h.more)) _ continues ∙ h.fields;
       place = omega (arith, at, h.place);
       fault = λ limit k w w' later same le none.
-        let added = added_continued line continues in
-        ap (first_fault limit k w) head
-        ∙ fault_step limit k w line (head_lines h.more) (form_continued k line continues later) (omega (arith, added, h.short, same, le))
-        ∙ h.fault limit (k + 1) (w + added_by line) w' (omega arith) (omega (arith, added, same)) le none;
+          let added = added_continued line continues in
+          ap (first_fault limit k w) head
+          ∙ fault_step limit k w line (head_lines h.more) (form_continued k line continues later) (omega (arith, added, h.short, same, le))
+          ∙ h.fault limit (k + 1) (w + added_by line) w' (omega arith) (omega (arith, added, same)) le none;
     }
 
 starts_lf : List ℕ → Bool
@@ -112,11 +112,11 @@ shows before (b ∷ c ∷ body) tail f s =
     let rest : is_folded b (c ∷ body) ≡ true = (and_parts (cond (eqb b 10) (eqb before 13 && begins_blank (c ∷ body)) true) (is_folded b (c ∷ body)) f).1 in
     elim (cases_Bool (eqb c 10)) [
       | inl lf ↦
-        let parts = and_parts (cond (eqb c 10) (eqb b 13 && begins_blank body) true) (is_folded c body) rest in
-        let pair = and_parts (eqb b 13) (begins_blank body) (sym (cond-true (eqb c 10) (eqb b 13 && begins_blank body) true lf) ∙ parts.0) in
-        let P : List ℕ → Type 0 = λ front. Shows (front ++ body) tail (lines ((front ++ body) ++ 13 ∷ 10 ∷ tail)) in
-        let same : 13 ∷ 10 ∷ [] ≡ b ∷ c ∷ [] = ap (λ x. x ∷ 10 ∷ []) (sym (eqb-true b 13 pair.0)) ∙ ap (λ x. b ∷ x ∷ []) (sym (eqb-true c 10 lf)) in
-        subst P same (shows_fold body tail pair.1 (shows c body tail parts.1 (blank_no_lf body pair.1)))
+          let parts = and_parts (cond (eqb c 10) (eqb b 13 && begins_blank body) true) (is_folded c body) rest in
+          let pair = and_parts (eqb b 13) (begins_blank body) (sym (cond-true (eqb c 10) (eqb b 13 && begins_blank body) true lf) ∙ parts.0) in
+          let P : List ℕ → Type 0 = λ front. Shows (front ++ body) tail (lines ((front ++ body) ++ 13 ∷ 10 ∷ tail)) in
+          let same : 13 ∷ 10 ∷ [] ≡ b ∷ c ∷ [] = ap (λ x. x ∷ 10 ∷ []) (sym (eqb-true b 13 pair.0)) ∙ ap (λ x. b ∷ x ∷ []) (sym (eqb-true c 10 lf)) in
+          subst P same (shows_fold body tail pair.1 (shows c body tail parts.1 (blank_no_lf body pair.1)))
       | inr other ↦ shows_byte b (c ∷ body) tail ((c ∷ body) ++ 13 ∷ 10 ∷ tail) s (shows b (c ∷ body) tail rest other)
     ]
 
@@ -150,8 +150,8 @@ trim_back_name name h =
     elim (cases_last name) [
       | inl e ↦ rw e refl
       | inr s ↦
-        let last = last_of is_name_byte s.0 s.1 (ap (list_all is_name_byte) (sym s.2) ∙ h) in
-        ap trim_back (s.2 ∙ sym (append-nil (s.0 ++ s.1 ∷ []))) ∙ trim_back_at s.0 [] s.1 (not_blank_byte s.1 last) refl ∙ sym s.2
+          let last = last_of is_name_byte s.0 s.1 (ap (list_all is_name_byte) (sym s.2) ∙ h) in
+          ap trim_back (s.2 ∙ sym (append-nil (s.0 ++ s.1 ∷ []))) ∙ trim_back_at s.0 [] s.1 (not_blank_byte s.1 last) refl ∙ sym s.2
     ]
 
 -- what a field's first line says
@@ -184,9 +184,9 @@ is_line name value h =
       value_is = value-is;
       form = λ k. chain_none (is_continuation line) (list_any (λ b. eqb b 58) line) (is_field_name (name_of line)) (cond (eqb k 1) (Some (ContinuationFirst k)) None) (Some (NoColon k)) (Some (BadName k)) other (has_colon name value) (ap is_field_name name-is ∙ h);
       added =
-        cond-false (is_continuation line) (length line + 2) (length (name_of line) + length (after_colon line) + 3) other
-        ∙ ap (λ (t : List ℕ). length t + length (after_colon line) + 3) name-is
-        ∙ ap (λ (t : List ℕ). length name + length t + 3) value-is;
+          cond-false (is_continuation line) (length line + 2) (length (name_of line) + length (after_colon line) + 3) other
+          ∙ ap (λ (t : List ℕ). length t + length (after_colon line) + 3) name-is
+          ∙ ap (λ (t : List ℕ). length name + length t + 3) value-is;
     }
 
 -- a first line with more bytes in front
@@ -253,26 +253,26 @@ reads_field name body fs tail n b h =
     let l = is_line name value n in
     let full : eqb (length (content (name ++ 58 ∷ s.whole))) 0 ≡ false = ap (λ (t : List ℕ). eqb (length t) 0) said ∙ some_name name value in
     let head : head_lines (lines (name ++ 58 ∷ text)) ≡ line ∷ head_lines s.more =
-        ap head_lines p.split ∙ cond-false (eqb (length (content (name ++ 58 ∷ s.whole))) 0) [] (content (name ++ 58 ∷ s.whole) ∷ head_lines s.more) full ∙ ap (λ (t : List ℕ). t ∷ head_lines s.more) said in
+    ap head_lines p.split ∙ cond-false (eqb (length (content (name ++ 58 ∷ s.whole))) 0) [] (content (name ++ 58 ∷ s.whole) ∷ head_lines s.more) full ∙ ap (λ (t : List ℕ). t ∷ head_lines s.more) said in
     let at : body_place (lines (name ++ 58 ∷ text)) ≡ length (name ++ 58 ∷ s.whole) + body_place s.more =
-        ap body_place p.split ∙ cond-false (eqb (length (content (name ++ 58 ∷ s.whole))) 0) (length (name ++ 58 ∷ s.whole)) (length (name ++ 58 ∷ s.whole) + body_place s.more) full in
+    ap body_place p.split ∙ cond-false (eqb (length (content (name ++ 58 ∷ s.whole))) 0) (length (name ++ 58 ∷ s.whole)) (length (name ++ 58 ∷ s.whole) + body_place s.more) full in
     let whole-body : after_colon line ++ continued (head_lines s.more) ≡ body =
-        ap (λ (t : List ℕ). t ++ continued (head_lines s.more)) l.value_is ∙ s.said ∙ ap (λ (t : List ℕ). body ++ t) (continued_none (lines tail) h.begins) ∙ append-nil body in
+    ap (λ (t : List ℕ). t ++ continued (head_lines s.more)) l.value_is ∙ s.said ∙ ap (λ (t : List ℕ). body ++ t) (continued_none (lines tail) h.begins) ∙ append-nil body in
     record {
       fields =
-        ap fields_of head
-        ∙ cond-false (is_continuation line) (fields_of (head_lines s.more)) ((name_of line, after_colon line ++ continued (head_lines s.more)) ∷ fields_of (head_lines s.more)) l.begins
-        ∙ ap (λ (t : List ℕ). (t, after_colon line ++ continued (head_lines s.more)) ∷ fields_of (head_lines s.more)) l.name_is
-        ∙ ap (λ (t : List ℕ). (name, t) ∷ fields_of (head_lines s.more)) whole-body
-        ∙ ap (λ (t : List RawField). (name, body) ∷ t) (s.fields ∙ h.fields);
+          ap fields_of head
+          ∙ cond-false (is_continuation line) (fields_of (head_lines s.more)) ((name_of line, after_colon line ++ continued (head_lines s.more)) ∷ fields_of (head_lines s.more)) l.begins
+          ∙ ap (λ (t : List ℕ). (t, after_colon line ++ continued (head_lines s.more)) ∷ fields_of (head_lines s.more)) l.name_is
+          ∙ ap (λ (t : List ℕ). (name, t) ∷ fields_of (head_lines s.more)) whole-body
+          ∙ ap (λ (t : List RawField). (name, body) ∷ t) (s.fields ∙ h.fields);
       place = omega (arith, at, s.place, h.place, length-written-cons (name, body) fs, length-append name (58 ∷ s.whole));
       begins = ap begins_continued p.split ∙ ap is_continuation said ∙ l.begins;
       fault = λ limit k w some le.
-        let len = length-written-cons (name, body) fs in
-        let w' : ℕ = w + (length name + length body + 3) in
-        ap (first_fault limit k w) head
-        ∙ fault_step limit k w line (head_lines s.more) (l.form k) (omega (arith, l.added, len, s.short, le))
-        ∙ s.fault limit (k + 1) (w + added_by line) w' (omega arith) (omega (arith, l.added)) (omega (arith, len, le)) (λ j later. h.fault limit j w' (omega arith) (omega (arith, len, le)));
+          let len = length-written-cons (name, body) fs in
+          let w' : ℕ = w + (length name + length body + 3) in
+          ap (first_fault limit k w) head
+          ∙ fault_step limit k w line (head_lines s.more) (l.form k) (omega (arith, l.added, len, s.short, le))
+          ∙ s.fault limit (k + 1) (w + added_by line) w' (omega arith) (omega (arith, l.added)) (omega (arith, len, le)) (λ j later. h.fault limit j w' (omega arith) (omega (arith, len, le)));
     }
 
 reads : (fs : List RawField) → list_all is_field fs ≡ true → (tail : List ℕ) → Reads fs (written fs ++ 13 ∷ 10 ∷ tail)
@@ -282,7 +282,7 @@ reads (f ∷ fs) h tail =
     let formed = and_parts (is_field_name f.0) (is_raw_body f.1) parts.0 in
     let rest : List ℕ = 13 ∷ 10 ∷ tail in
     let regrouped : written (f ∷ fs) ++ rest ≡ f.0 ++ 58 ∷ (f.1 ++ 13 ∷ 10 ∷ (written fs ++ rest)) =
-        append_assoc f.0 (58 ∷ (f.1 ++ 13 ∷ 10 ∷ written fs)) rest ∙ ap (λ (t : List ℕ). f.0 ++ 58 ∷ t) (append_assoc f.1 (13 ∷ 10 ∷ written fs) rest) in
+    append_assoc f.0 (58 ∷ (f.1 ++ 13 ∷ 10 ∷ written fs)) rest ∙ ap (λ (t : List ℕ). f.0 ++ 58 ∷ t) (append_assoc f.1 (13 ∷ 10 ∷ written fs) rest) in
     subst (Reads (f ∷ fs)) (sym regrouped) (reads_field f.0 f.1 fs (written fs ++ rest) formed.0 formed.1 (reads fs parts.1 tail))
 
 -- a written head and an empty line are read as that head, whatever follows

@@ -1,11 +1,11 @@
 -- The first line of a text, by where its LF stands.
-use Rattle.std.proofs.Common.{◌≡◌, ℕ, suc, ◌+◌, ◌-◌, ◌<◌, ◌≤◌, ◌⊎◌, Bool, true, false, not, ◌&&◌, cond, eqb, nat_eq, ltb, List, [], ◌∷◌, ◌++◌, length, get_or, take, drop, Some, None, refl, sym, ap, subst, ◌∙◌, append_assoc, arith, inl, inr, rules}
+use Rattle.std.proofs.Common.{◌≡◌, ℕ, suc, ◌+◌, ◌-◌, ◌<◌, ◌≤◌, ◌⊎◌, Bool, true, false, not, cond, eqb, ltb, List, [], ◌∷◌, ◌++◌, length, get_or, take, drop, Some, None, refl, sym, ap, ◌∙◌, arith, inl, inr}
 use Rattle.std.specs.List.{list_all}
-use Rattle.std.proofs.lemmas.Bool.{and_parts, and_from, and_right, not-true, not_from_false, false_from_ne_true, eqb-true, ne_eqb, eq-eqb, cases_Bool, lt-ltb}
-use Rattle.std.proofs.lemmas.List.{take-append-drop, drop_more, get_or-take, length-append, length-take, length-drop, take_at, get_or_push, length_push, take_all, drop_all, nil_from_length}
+use Rattle.std.proofs.lemmas.Bool.{and_parts, and_from, and_right, not-true, not_from_false, false_from_ne_true, eqb-true, cases_Bool, lt-ltb}
+use Rattle.std.proofs.lemmas.List.{take-append-drop, drop_more, get_or-take, length-append, length-take, length-drop, take_at, get_or_push, length_push}
 use Rattle.bstr.specs.Find.{IsFirstByte, Nowhere, Passes, is_byte}
 use Rattle.bstr.specs.Text.{no_cr}
-use Rattle.mj_head.specs.Head.{lines, lengthened, content, is_line_end}
+use Rattle.mj_head.specs.Head.{lines, content}
 use Rattle.mj_head.specs.Reading.{IsFirstLine}
 
 -- the byte stands nowhere in the text
@@ -33,8 +33,7 @@ pub first_byte : (c : ℕ) (text : List ℕ) (k : ℕ) → IsFirstByte (is_byte 
 first_byte c text k h =
     let within : k < length text = h.0.high in
     let is : get_or text k 0 ≡ c = eqb-true (get_or text k 0) c h.1 in
-    let len : length (take k text) ≡ k = omega (arith, length-take k text) in
-    (
+    let len : length (take k text) ≡ k = omega (arith, length-take k text) in (
       sym (take-append-drop k text) ∙ ap (λ (t : List ℕ). take k text ++ t) (drop_more text k 0 within ∙ ap (λ b. b ∷ drop (k + 1) text) is),
       none_pass (is_byte c) (take k text) (λ i low high p. h.0.before i low (omega arith) (ap (is_byte c) (sym (get_or-take k text i 0 (omega arith))) ∙ p)),
     )
@@ -91,9 +90,9 @@ content-ended line =
     elim (cases_last line) [
       | inl e ↦ rw e refl
       | inr h ↦ rw (h.2, no_cr_push h.0 h.1) (elim (cases_Bool (eqb h.1 13)) [
-          | inl cr ↦ rw (cr, eqb-true h.1 13 cr) (content_cr h.0)
-          | inr other ↦ rw other (content_lf h.0 h.1 other)
-        ])
+        | inl cr ↦ rw (cr, eqb-true h.1 13 cr) (content_cr h.0)
+        | inr other ↦ rw other (content_lf h.0 h.1 other)
+      ])
     ]
 
 -- the first line of a text with LF

@@ -1,7 +1,7 @@
 -- A line around its first colon, and a text without the blanks at its end.
-use Rattle.std.proofs.Common.{◌≡◌, ℕ, suc, ◌+◌, ◌<◌, ◌≤◌, Bool, true, false, not, ◌&&◌, ◌||◌, cond, eqb, inl, inr, List, [], ◌∷◌, ◌++◌, length, get_or, take, drop, Some, None, refl, sym, ap, ◌∙◌, arith}
+use Rattle.std.proofs.Common.{◌≡◌, ℕ, suc, ◌+◌, ◌<◌, ◌≤◌, Bool, true, false, not, ◌||◌, eqb, inl, inr, List, [], ◌∷◌, ◌++◌, length, get_or, take, drop, Some, refl, sym, ap, ◌∙◌, arith}
 use Rattle.std.specs.List.{list_all, list_any}
-use Rattle.std.proofs.lemmas.Bool.{and_parts, and_from, and_left, and_right, not-true, not_from_false, false_from_ne_true, cond-true, cond-false, or_from, cond_both, cases_Bool}
+use Rattle.std.proofs.lemmas.Bool.{and_from, and_left, and_right, false_from_ne_true, cond-true, cond-false, or_from, cond_both, cases_Bool}
 use Rattle.std.proofs.lemmas.List.{take-append-drop, take_more, get_or-drop, length-drop}
 use Rattle.bstr.specs.Find.{IsLastByte, Nowhere, Passes}
 use Rattle.bstr.specs.Bytes.{is_in, not_in}
@@ -74,7 +74,7 @@ trimmed_at text last h =
     let within : last < length text = h.0.high in
     let front : take (last + 1) text ≡ take last text ++ get_or text last 0 ∷ [] = take_more text last 0 within in
     let rest : list_all is_blank (drop (last + 1) text) ≡ true =
-        all_blank (drop (last + 1) text) (λ k low high p. h.0.after (last + 1 + k) (omega arith) (omega (arith, length-drop (last + 1) text)) (ap (not_in (32 ∷ 9 ∷ [])) (sym (get_or-drop (last + 1) text k 0)) ∙ p)) in
+    all_blank (drop (last + 1) text) (λ k low high p. h.0.after (last + 1 + k) (omega arith) (omega (arith, length-drop (last + 1) text)) (ap (not_in (32 ∷ 9 ∷ [])) (sym (get_or-drop (last + 1) text k 0)) ∙ p)) in
     let whole : text ≡ (take last text ++ get_or text last 0 ∷ []) ++ drop (last + 1) text = sym (take-append-drop (last + 1) text) ∙ ap (λ (t : List ℕ). t ++ drop (last + 1) text) front in
     front ∙ sym (ap trim_back whole ∙ trim_back_at (take last text) (drop (last + 1) text) (get_or text last 0) (not_blank (get_or text last 0) h.1) rest)
 

@@ -1,10 +1,10 @@
 -- One line of the reader, by what the definitions say of the whole text.
-use Rattle.std.proofs.Common.{◌≡◌, ℕ, zero, suc, ◌+◌, ◌<◌, ◌≤◌, Bool, true, false, ◌&&◌, ◌||◌, cond, eqb, ltb, inl, inr, List, [], ◌∷◌, ◌++◌, length, Option, Some, None, refl, sym, ap, subst, ◌∙◌, append_assoc, arith}
-use Rattle.std.proofs.lemmas.Bool.{cond-true, cond-false, cond_both, cases_Bool, eqb-true, ne_eqb, le-ltb, lt-ltb, false≢true, and_right, and_left}
+use Rattle.std.proofs.Common.{◌≡◌, ℕ, suc, ◌+◌, ◌<◌, ◌≤◌, Bool, true, false, ◌&&◌, ◌||◌, cond, eqb, ltb, inl, inr, List, [], ◌∷◌, ◌++◌, length, Option, Some, None, refl, sym, ap, subst, ◌∙◌, append_assoc, arith}
+use Rattle.std.proofs.lemmas.Bool.{cond-true, cond-false, cases_Bool, eqb-true, ne_eqb, le-ltb, lt-ltb, false≢true, and_right, and_left}
 use Rattle.std.proofs.lemmas.List.{length-append}
 use Rattle.mj_terms.specs.Text.{is_blank}
 use Rattle.mj_head.specs.declared.fault.HeadFault.{HeadFault}
-use Rattle.mj_head.specs.declared.fault.HeadFault.TheVariants.{ContinuationFirst, NoColon, BadName, TooLong, Memory}
+use Rattle.mj_head.specs.declared.fault.HeadFault.TheVariants.{ContinuationFirst, TooLong}
 use Rattle.mj_head.specs.declared.cursor.Cursor.{Cursor}
 use Rattle.mj_head.specs.Head.{lines, lengthened, content, is_line_end, head_lines, body_place, is_continuation, begins_blank, continued, fields_of, added_by, form_fault, or_else, first_fault}
 use Rattle.mj_head.specs.Reading.{IsFirstLine, begins_continued, IsFault, head_at, fault_from, GoesOn, Continues, empty_line_len}
@@ -145,7 +145,7 @@ head_step text line rest h e =
 pub place_step : (text line rest : List ℕ) → IsFirstLine text line rest → eqb (length line) 0 ≡ false → body_place (lines text) + length rest ≡ length text + body_place (lines rest)
 place_step text line rest h e =
     let p : body_place (lines text) ≡ length h.whole + body_place (lines rest) =
-        ap body_place h.split ∙ cond-false (eqb (length (content h.whole)) 0) (length h.whole) (length h.whole + body_place (lines rest)) (ap (λ (t : List ℕ). eqb (length t) 0) h.said ∙ e) in
+    ap body_place h.split ∙ cond-false (eqb (length (content h.whole)) 0) (length h.whole) (length h.whole + body_place (lines rest)) (ap (λ (t : List ℕ). eqb (length t) 0) h.said ∙ e) in
     omega (arith, p, h.len)
 
 pub fault_step : (limit k w : ℕ) (line : List ℕ) (ls : List (List ℕ)) → form_fault k line ≡ None → w + added_by line ≤ limit → first_fault limit k w (line ∷ ls) ≡ first_fault limit (k + 1) (w + added_by line) ls
@@ -176,10 +176,10 @@ GoesOn_trans a b c p q = record { fault = p.fault ∙ q.fault; place = omega (ar
 pub GoesOn_line : (from to : Cursor) (line : List ℕ) → IsFirstLine from.rest.now line to.rest.now → eqb (length line) 0 ≡ false → form_fault from.line line ≡ None → to.line ≡ from.line + 1 → to.written ≡ from.written + added_by line → to.written ≤ 65536 → GoesOn from to
 GoesOn_line from to line h some form number len short = record {
   fault =
-    ap (first_fault 65536 from.line from.written) (head_step from.rest.now line to.rest.now h some)
-    ∙ fault_step 65536 from.line from.written line (head_at to) form (omega (arith, len, short))
-    ∙ ap (λ k. first_fault 65536 k (from.written + added_by line) (head_at to)) (sym number)
-    ∙ ap (λ w. first_fault 65536 to.line w (head_at to)) (sym len);
+      ap (first_fault 65536 from.line from.written) (head_step from.rest.now line to.rest.now h some)
+      ∙ fault_step 65536 from.line from.written line (head_at to) form (omega (arith, len, short))
+      ∙ ap (λ k. first_fault 65536 k (from.written + added_by line) (head_at to)) (sym number)
+      ∙ ap (λ w. first_fault 65536 to.line w (head_at to)) (sym len);
   place = place_step from.rest.now line to.rest.now h some;
 }
 
@@ -217,9 +217,9 @@ Continues_line old new line from to h blank later number len short grown =
     record {
       goes_on = GoesOn_line from to line h some (form_continued from.line line continues later) number (len ∙ ap (λ n. from.written + n) (sym (added_continued line continues))) short;
       body =
-        ap (λ (ls : List (List ℕ)). old ++ continued ls) head
-        ∙ ap (λ (t : List ℕ). old ++ t) (cond-true (is_continuation line) ((13 ∷ 10 ∷ line) ++ continued (head_at to)) [] continues)
-        ∙ sym (ap (λ (t : List ℕ). t ++ continued (head_at to)) grown ∙ append_assoc (old ++ (13 ∷ 10 ∷ [])) line (continued (head_at to)) ∙ append_assoc old (13 ∷ 10 ∷ []) (line ++ continued (head_at to)));
+          ap (λ (ls : List (List ℕ)). old ++ continued ls) head
+          ∙ ap (λ (t : List ℕ). old ++ t) (cond-true (is_continuation line) ((13 ∷ 10 ∷ line) ++ continued (head_at to)) [] continues)
+          ∙ sym (ap (λ (t : List ℕ). t ++ continued (head_at to)) grown ∙ append_assoc (old ++ (13 ∷ 10 ∷ [])) line (continued (head_at to)) ∙ append_assoc old (13 ∷ 10 ∷ []) (line ++ continued (head_at to)));
       fields = ap fields_of head ∙ cond-true (is_continuation line) (fields_of (head_at to)) _ continues;
       len = rw grown (omega (arith, len, length-append (old ++ (13 ∷ 10 ∷ [])) line, length-append old (13 ∷ 10 ∷ [])));
       later = omega (arith, number);

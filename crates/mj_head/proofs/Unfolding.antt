@@ -1,15 +1,15 @@
 -- A raw body without its CRLFs, line by line, and a text without the blanks at its front.
-use Rattle.std.proofs.Common.{◌≡◌, ℕ, suc, ◌+◌, ◌-◌, ◌<◌, ◌≤◌, Bool, true, false, not, ◌&&◌, ◌||◌, cond, eqb, ltb, inl, inr, List, [], ◌∷◌, ◌++◌, length, get_or, take, drop, Some, None, Result, Ok, Err, refl, sym, ap, subst, ◌∙◌, append_assoc, arith}
+use Rattle.std.proofs.Common.{◌≡◌, ℕ, suc, ◌+◌, ◌-◌, ◌<◌, ◌≤◌, Bool, true, false, not, ◌&&◌, cond, eqb, ltb, inl, inr, List, [], ◌∷◌, ◌++◌, length, get_or, take, drop, Some, None, Result, Ok, Err, refl, sym, ap, subst, ◌∙◌, append_assoc, arith}
 use Rattle.std.specs.List.{list_all}
 use Rattle.std.specs.Result.{OnOk, is_ok}
-use Rattle.std.proofs.lemmas.Bool.{cond-true, cond-false, cond_both, cases_Bool, and_parts, and_cases, and_right, and_left, eqb-true, ltb-true, ltb-false, and_from, false_from_ne_true}
-use Rattle.std.proofs.lemmas.List.{length-append, length-take, length-drop, take_more, take-append-drop, get_or-take, drop_more, append-nil}
-use Rattle.bstr.specs.Find.{IsFirstByte, Nowhere, Passes, is_byte}
+use Rattle.std.proofs.lemmas.Bool.{cond-true, cond-false, cond_both, cases_Bool, and_parts, and_right, and_left, eqb-true, ltb-true, ltb-false, and_from}
+use Rattle.std.proofs.lemmas.List.{length-take, take_more, take-append-drop, get_or-take, drop_more, append-nil}
+use Rattle.bstr.specs.Find.{IsFirstByte, is_byte}
 use Rattle.bstr.specs.Bytes.{not_in}
 use Rattle.mj_terms.specs.Text.{is_blank, trim_front, trim_back, trimmed}
 use Rattle.mj_head.specs.Fields.{without_crlf}
 use Rattle.mj_head.specs.Reading.{line_to}
-use Rattle.mj_head.proofs.Lines.{Lacks, Lacks-first, Lacks-rest, first_byte, none_pass, cases_last}
+use Rattle.mj_head.proofs.Lines.{Lacks, Lacks-first, Lacks-rest, first_byte, none_pass}
 use Rattle.mj_head.proofs.Names.{all_blank, not_blank}
 use Rattle.mj_head.proofs.Steps.{no_zero}
 
@@ -61,26 +61,26 @@ crlf_split body end h =
     let joined : (take end body ++ 10 ∷ []) ++ without_crlf rest ≡ take end body ++ 10 ∷ without_crlf rest = append_assoc (take end body) (10 ∷ []) (without_crlf rest) in
     elim (cases_Bool (ltb 0 end)) [
       | inl some ↦
-        let above : 0 < end = ltb-true 0 end some in
-        let line : take end body ≡ take (end - 1) body ++ b ∷ [] = ap (λ n. take n body) (omega arith) ∙ take_more body (end - 1) 0 (omega arith) in
-        let lacks : Lacks 10 (take (end - 1) body ++ b ∷ []) = subst (Lacks 10) line p.1 in
-        let whole : body ≡ (take (end - 1) body ++ b ∷ []) ++ 10 ∷ rest = p.0 ∙ ap (λ (t : List ℕ). t ++ 10 ∷ rest) line in
-        elim (cases_Bool (eqb b 13)) [
-          | inl cr ↦
-            ap without_crlf (whole ∙ ap (λ x. (take (end - 1) body ++ x ∷ []) ++ 10 ∷ rest) (eqb-true b 13 cr))
-            ∙ crlf_cr (take (end - 1) body) rest (Lacks-front (take (end - 1) body) (b ∷ []) lacks)
-            ∙ ap (λ (t : List ℕ). t ++ without_crlf rest) (sym (cond-true (ltb 0 end && eqb b 13) (take (end - 1) body) (take (end + 1) body) (and_from (ltb 0 end) (eqb b 13) some cr)))
-          | inr other ↦
-            ap without_crlf whole ∙ crlf_lf (take (end - 1) body) rest b lacks other
-            ∙ ap (λ (t : List ℕ). t ++ 10 ∷ without_crlf rest) (sym line) ∙ sym joined
-            ∙ ap (λ (t : List ℕ). t ++ without_crlf rest) (sym (cond-false (ltb 0 end && eqb b 13) (take (end - 1) body) (take (end + 1) body) (and_right (ltb 0 end) (eqb b 13) other) ∙ ended))
-        ]
+          let above : 0 < end = ltb-true 0 end some in
+          let line : take end body ≡ take (end - 1) body ++ b ∷ [] = ap (λ n. take n body) (omega arith) ∙ take_more body (end - 1) 0 (omega arith) in
+          let lacks : Lacks 10 (take (end - 1) body ++ b ∷ []) = subst (Lacks 10) line p.1 in
+          let whole : body ≡ (take (end - 1) body ++ b ∷ []) ++ 10 ∷ rest = p.0 ∙ ap (λ (t : List ℕ). t ++ 10 ∷ rest) line in
+          elim (cases_Bool (eqb b 13)) [
+            | inl cr ↦
+                ap without_crlf (whole ∙ ap (λ x. (take (end - 1) body ++ x ∷ []) ++ 10 ∷ rest) (eqb-true b 13 cr))
+                ∙ crlf_cr (take (end - 1) body) rest (Lacks-front (take (end - 1) body) (b ∷ []) lacks)
+                ∙ ap (λ (t : List ℕ). t ++ without_crlf rest) (sym (cond-true (ltb 0 end && eqb b 13) (take (end - 1) body) (take (end + 1) body) (and_from (ltb 0 end) (eqb b 13) some cr)))
+            | inr other ↦
+                ap without_crlf whole ∙ crlf_lf (take (end - 1) body) rest b lacks other
+                ∙ ap (λ (t : List ℕ). t ++ 10 ∷ without_crlf rest) (sym line) ∙ sym joined
+                ∙ ap (λ (t : List ℕ). t ++ without_crlf rest) (sym (cond-false (ltb 0 end && eqb b 13) (take (end - 1) body) (take (end + 1) body) (and_right (ltb 0 end) (eqb b 13) other) ∙ ended))
+          ]
       | inr none ↦
-        let zero-is : end ≡ 0 = omega (arith, ltb-false 0 end none) in
-        let line : take end body ≡ [] = ap (λ n. take n body) zero-is in
-        ap without_crlf (p.0 ∙ ap (λ (t : List ℕ). t ++ 10 ∷ rest) line) ∙ crlf_bare rest
-        ∙ ap (λ (t : List ℕ). t ++ 10 ∷ without_crlf rest) (sym line) ∙ sym joined
-        ∙ ap (λ (t : List ℕ). t ++ without_crlf rest) (sym (cond-false (ltb 0 end && eqb b 13) (take (end - 1) body) (take (end + 1) body) (and_left (ltb 0 end) (eqb b 13) none) ∙ ended))
+          let zero-is : end ≡ 0 = omega (arith, ltb-false 0 end none) in
+          let line : take end body ≡ [] = ap (λ n. take n body) zero-is in
+          ap without_crlf (p.0 ∙ ap (λ (t : List ℕ). t ++ 10 ∷ rest) line) ∙ crlf_bare rest
+          ∙ ap (λ (t : List ℕ). t ++ 10 ∷ without_crlf rest) (sym line) ∙ sym joined
+          ∙ ap (λ (t : List ℕ). t ++ without_crlf rest) (sym (cond-false (ltb 0 end && eqb b 13) (take (end - 1) body) (take (end + 1) body) (and_left (ltb 0 end) (eqb b 13) none) ∙ ended))
     ]
 
 pub crlf_whole : (body : List ℕ) → IsFirstByte (is_byte 10) body None → without_crlf body ≡ body
@@ -110,8 +110,8 @@ pushed_trimmed (b ∷ text) part h =
     elim (cases_Bool (is_blank b)) [
       | inl e ↦ absurd (omega (arith, trim_front-le text, ap length (sym (cond-true (is_blank b) (trim_front text) (b ∷ text) e) ∙ h)))
       | inr e ↦
-        let same : b ∷ (text ++ cond (eqb (suc (length text)) 0) (trim_front part) part) ≡ b ∷ (text ++ part) = ap (λ (t : List ℕ). b ∷ (text ++ t)) (cond-false (eqb (suc (length text)) 0) (trim_front part) part (no_zero (length text))) in
-        (cond-false (is_blank b) _ _ e, λ rest. ap (λ (t : List ℕ). trim_front (t ++ rest)) same)
+          let same : b ∷ (text ++ cond (eqb (suc (length text)) 0) (trim_front part) part) ≡ b ∷ (text ++ part) = ap (λ (t : List ℕ). b ∷ (text ++ t)) (cond-false (eqb (suc (length text)) 0) (trim_front part) part (no_zero (length text))) in
+          (cond-false (is_blank b) _ _ e, λ rest. ap (λ (t : List ℕ). trim_front (t ++ rest)) same)
     ]
 
 -- the blanks at the front end at the first other byte
@@ -134,7 +134,7 @@ pub front_at : (text : List ℕ) (first : ℕ) → IsFirstByte (not_in (32 ∷ 9
 front_at text first h =
     let within : first < length text = h.0.high in
     let blank : list_all is_blank (take first text) ≡ true =
-        all_blank (take first text) (λ k low high p. h.0.before k low (omega (arith, length-take first text)) (ap (not_in (32 ∷ 9 ∷ [])) (sym (get_or-take first text k 0 (omega (arith, length-take first text)))) ∙ p)) in
+    all_blank (take first text) (λ k low high p. h.0.before k low (omega (arith, length-take first text)) (ap (not_in (32 ∷ 9 ∷ [])) (sym (get_or-take first text k 0 (omega (arith, length-take first text)))) ∙ p)) in
     let rest : drop first text ≡ get_or text first 0 ∷ drop (first + 1) text = drop_more text first 0 within in
     ap trim_front (sym (take-append-drop first text)) ∙ trim_front_over (take first text) (drop first text) blank
     ∙ ap trim_front rest ∙ cond-false (is_blank (get_or text first 0)) (trim_front (drop (first + 1) text)) (get_or text first 0 ∷ drop (first + 1) text) (not_blank (get_or text first 0) h.1) ∙ sym rest

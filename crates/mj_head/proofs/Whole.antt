@@ -1,5 +1,5 @@
 -- The reader's loop: what was read so far, and what the whole text has.
-use Rattle.std.proofs.Common.{◌≡◌, ℕ, ◌+◌, ◌≤◌, Bool, true, false, ◌&&◌, cond, eqb, leb, List, [], ◌∷◌, ◌++◌, length, Option, Some, None, Result, Ok, Err, refl, sym, ap, subst, ◌∙◌, append_assoc, arith}
+use Rattle.std.proofs.Common.{◌≡◌, ℕ, ◌+◌, ◌≤◌, true, eqb, leb, List, [], ◌∷◌, ◌++◌, length, Option, None, Ok, Err, sym, ap, subst, ◌∙◌, append_assoc, arith}
 use Rattle.std.specs.List.{list_all}
 use Rattle.std.proofs.lemmas.Bool.{and_from, eqb-true, le-leb, both_ways}
 use Rattle.std.proofs.lemmas.List.{length-append, append-nil, nil_from_length}
@@ -7,7 +7,7 @@ use Rattle.mj_head.specs.declared.fault.HeadFault.{HeadFault}
 use Rattle.mj_head.specs.declared.fault.HeadFault.TheVariants.{ContinuationFirst, NoColon, BadName, TooLong, Memory}
 use Rattle.mj_head.specs.declared.cursor.Cursor.{Cursor}
 use Rattle.mj_head.specs.Head.{RawField, lines, head_lines, body_place, fields_of, written, first_fault, unless, head_of, Gives, is_field, is_head}
-use Rattle.mj_head.specs.Reading.{begins_continued, IsFault, head_at, fault_from, GoesOn, ReadsField, empty_line_len}
+use Rattle.mj_head.specs.Reading.{begins_continued, IsFault, head_at, fault_from, ReadsField, empty_line_len}
 use Rattle.mj_head.proofs.Steps.{place_over}
 use Rattle.mj_head.proofs.Forms.{lines_lack, fields_formed}
 
@@ -23,8 +23,14 @@ pub record ReadSoFar (bytes : List ℕ) (read : List RawField) (cursor : Cursor)
 pub length-written_push : (fs : List RawField) (f : RawField) → length (written (fs ++ f ∷ [])) ≡ length (written fs) + (length f.0 + length f.1 + 3)
 length-written_push [] f = omega (arith, length-append f.0 ((58 ∷ f.1) ++ ((13 ∷ 10 ∷ []) ++ [])), length-append f.1 (13 ∷ 10 ∷ []))
 length-written_push (g ∷ fs) f =
-    omega (arith, length-written_push fs f, length-append g.0 ((58 ∷ g.1) ++ ((13 ∷ 10 ∷ []) ++ written (fs ++ f ∷ []))), length-append g.1 ((13 ∷ 10 ∷ []) ++ written (fs ++ f ∷ [])),
-      length-append g.0 ((58 ∷ g.1) ++ ((13 ∷ 10 ∷ []) ++ written fs)), length-append g.1 ((13 ∷ 10 ∷ []) ++ written fs))
+    omega (
+      arith,
+      length-written_push fs f,
+      length-append g.0 ((58 ∷ g.1) ++ ((13 ∷ 10 ∷ []) ++ written (fs ++ f ∷ []))),
+      length-append g.1 ((13 ∷ 10 ∷ []) ++ written (fs ++ f ∷ [])),
+      length-append g.0 ((58 ∷ g.1) ++ ((13 ∷ 10 ∷ []) ++ written fs)),
+      length-append g.1 ((13 ∷ 10 ∷ []) ++ written fs),
+    )
 
 -- where the head is over, all of it was read
 pub all_read : (bytes : List ℕ) (fields : List RawField) (cursor : Cursor) (place : ℕ) → ReadSoFar bytes fields cursor → eqb (length (head_at cursor)) 0 ≡ true → place + length cursor.rest.now ≡ length bytes + empty_line_len cursor.rest.now → head_of bytes ≡ Ok (fields, place)

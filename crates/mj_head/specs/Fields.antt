@@ -1,5 +1,5 @@
 -- Fields by their names, and the changes of a head (RFC 5322, 2.2).
-use Rattle.std.specs.Prelude.{◌≡◌, ℕ, Bool, not, ◌&&◌, ◌||◌, ◌==◌, if◌then◌else◌, List, [], ◌∷◌, ◌++◌, Option, Result, Ok}
+use Rattle.std.specs.Prelude.{◌≡◌, ℕ, Bool, not, ◌&&◌, ◌||◌, ◌==◌, if◌then◌else◌, List, [], ◌∷◌, Option, Ok}
 use Rattle.std.specs.List.{list_all, find}
 use Rattle.std.specs.Option.{option_map}
 use Rattle.mj_terms.specs.Text.{trimmed, same_text}
@@ -20,8 +20,8 @@ abbrev pub unfolded : List ℕ → List RawField → Option (List ℕ)
 unfolded name fields = option_map (λ field. trimmed (without_crlf field.1)) (find (is_named name) fields)
 
 -- the value of a field that is added holds neither CR nor LF
-abbrev pub is_value : List ℕ → Bool
-is_value value = list_all (λ b. not (b == 13 || b == 10)) value
+abbrev pub is_field_value : List ℕ → Bool
+is_field_value value = list_all (λ b. not (b == 13 || b == 10)) value
 
 -- the fields, of which the first of this name has this raw body now, or one more of this name at the end
 abbrev pub replaced_first : List ℕ → List ℕ → List RawField → List RawField

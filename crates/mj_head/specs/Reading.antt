@@ -1,9 +1,9 @@
 -- What the steps of the reader say.
-use Rattle.std.specs.Prelude.{◌≡◌, ℕ, ◌+◌, ◌-◌, ◌≤◌, nat_lt, take, slice_index, ◌==◌, ◌&&◌, if◌then◌else◌, Bool, true, false, List, [], ◌∷◌, ◌++◌, length, slice_set, slice_index_or, Option, Some, None}
+use Rattle.std.specs.Prelude.{◌≡◌, ℕ, ◌+◌, ◌-◌, ◌≤◌, nat_lt, take, slice_index, ◌==◌, ◌&&◌, if◌then◌else◌, Bool, false, List, [], ◌∷◌, ◌++◌, length, slice_set, slice_index_or, Option, Some, None}
 use Rattle.mj_head.specs.declared.fault.HeadFault.{HeadFault}
 use Rattle.mj_head.specs.declared.fault.HeadFault.TheVariants.{ContinuationFirst, NoColon, BadName, TooLong, Memory}
 use Rattle.mj_head.specs.declared.cursor.Cursor.{Cursor}
-use Rattle.mj_head.specs.Head.{RawField, lines, content, head_lines, body_place, is_continuation, before_colon, after_colon, name_of, continued, fields_of, form_fault, first_fault}
+use Rattle.mj_head.specs.Head.{RawField, lines, content, head_lines, body_place, is_continuation, after_colon, name_of, continued, fields_of, form_fault, first_fault}
 
 -- the first line of a text, without its end, and the text behind it
 pub record IsFirstLine (text line rest : List ℕ) : Type 0 where

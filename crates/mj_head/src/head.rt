@@ -3,11 +3,14 @@ ghost use Rattle.std.specs.Prelude.{◌≡◌, ◌+◌, ◌<◌, ◌≤◌, ◌=
 ghost use Rattle.std.specs.Option.{option_copied, option_map};
 ghost use Rattle.mj_head.specs.Head.{written, is_head, is_field_name, head_of};
 ghost use Rattle.mj_head.specs.Reading.{with_body};
-ghost use Rattle.mj_head.specs.Fields.{is_named, unfolded, is_value, replaced_first, IsSomeHead};
+ghost use Rattle.mj_head.specs.Fields.{is_named, unfolded, is_field_value, replaced_first, IsSomeHead};
 
 use crate::cursor::WRITTEN_LIMIT;
 use crate::field::{Field, value_body};
-use crate::fields::{copy_fields, count_named, first_named, place_named, remove_named, set_body, write_fields, written_len};
+use crate::fields::{
+    copy_fields, count_named, first_named, place_named, remove_named, set_body, write_fields,
+    written_len,
+};
 use crate::read::is_field;
 use crate::unfold::unfold;
 use std::alloc::{AllocError, Global};
@@ -118,7 +121,7 @@ impl Head {
     /// the head as before, where the written form would have more than 65,536 bytes.
     pub fn append(&mut self, name: &[u8], value: &[u8]) -> Result<bool, AllocError>
         requires name { is_field_name name.now ≡ true }
-        requires value { is_value value.now ≡ true }
+        requires value { is_field_value value.now ≡ true }
         ensures fits { IfOk result (λ added. IsTrue added ↔ (length (written (self.old ++ (name.now, 32 ∷ value.now) ∷ [])) ≤ 65536)) }
         ensures added { result ≡ Result.Ok true → self.new ≡ self.old ++ (name.now, 32 ∷ value.now) ∷ [] }
         ensures refused { result ≡ Result.Ok false → self.new ≡ self.old }
@@ -140,7 +143,7 @@ impl Head {
     /// bytes.
     pub fn replace_first(&mut self, name: &[u8], value: &[u8]) -> Result<bool, AllocError>
         requires name { is_field_name name.now ≡ true }
-        requires value { is_value value.now ≡ true }
+        requires value { is_field_value value.now ≡ true }
         ensures fits { IfOk result (λ replaced. IsTrue replaced ↔ (length (written (replaced_first name.now (32 ∷ value.now) self.old)) ≤ 65536)) }
         ensures replaced { result ≡ Result.Ok true → self.new ≡ replaced_first name.now (32 ∷ value.now) self.old }
         ensures refused { result ≡ Result.Ok false → self.new ≡ self.old }
@@ -155,7 +158,7 @@ impl Head {
     /// Gives the field at this place the raw body space and value, as `replace_first` does.
     fn replace_at(&mut self, place: usize, value: &[u8]) -> Result<bool, AllocError>
         requires place { place < length self.old }
-        requires value { is_value value.now ≡ true }
+        requires value { is_field_value value.now ≡ true }
         ensures fits { IfOk result (λ replaced. IsTrue replaced ↔ (length (written (with_body self.old place (32 ∷ value.now))) ≤ 65536)) }
         ensures replaced { result ≡ Result.Ok true → self.new ≡ with_body self.old place (32 ∷ value.now) }
         ensures refused { result ≡ Result.Ok false → self.new ≡ self.old }

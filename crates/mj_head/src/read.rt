@@ -3,6 +3,7 @@ ghost use Rattle.std.specs.Prelude.{◌≡◌, ◌+◌, ◌<◌, ◌≤◌, [], 
 ghost use Rattle.std.specs.List.{list_all, list_any};
 ghost use Rattle.mj_terms.specs.Text.{trim_back};
 ghost use Rattle.mj_head.specs.Head.{Gives, lines, body_place, head_lines, form_fault, is_continuation, is_field, is_field_name, is_name_byte, is_raw_body, begins_blank, before_colon, after_colon, head_of};
+ghost use Rattle.mj_head.specs.Fields.{is_field_value};
 ghost use Rattle.mj_head.specs.Reading.{begins_continued, IsFault, BeginsField, Continues, ReadsField, head_at, fault_from, empty_line_len};
 
 use crate::cursor::Cursor;
@@ -20,6 +21,13 @@ pub fn is_field_name(name: &[u8]) -> bool
 {
     let named = are_name_bytes(name);
     !name.is_empty() && named
+}
+
+/// Whether the bytes may be the value of a field that is added: they hold neither CR nor LF.
+pub fn is_field_value(value: &[u8]) -> bool
+    ensures { result ≡ is_field_value value.now }
+{
+    value.iter().all(|&b| b != b'\r' && b != b'\n')
 }
 
 /// Whether a name and a raw body are a field's: each LF of the body stands between a CR and a blank.

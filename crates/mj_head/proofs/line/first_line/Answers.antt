@@ -1,6 +1,5 @@
-use Rattle.std.proofs.Common.{◌≡◌, ◌+◌, ◌-◌, ◌≤◌, length, take, drop, List, [], arith}
-use Rattle.std.proofs.lemmas.List.{take_rest, take_all, drop_all}
-use Rattle.bstr.specs.Text.{no_cr}
+use Rattle.std.proofs.Common.{◌+◌, length, arith}
+use Rattle.std.proofs.lemmas.List.{take_rest, drop_all}
 use Rattle.mj_head.proofs.Lines.{first_line_at, first_line_last}
 use Rattle.mj_head.proofs.line.first_line.Goals as goal
 

@@ -1,4 +1,3 @@
-use Rattle.std.proofs.Common.{arith}
 use Rattle.mj_head.proofs.Names.{name_value-le}
 use Rattle.mj_head.proofs.read.field_parts.Goals as goal
 

@@ -1,4 +1,4 @@
-use Rattle.std.proofs.Common.{◌≡◌, ◌+◌, ◌∷◌, ◌++◌, List, ℕ, take, drop, ap, ◌∙◌, eqb}
+use Rattle.std.proofs.Common.{◌+◌, take, drop, ap, ◌∙◌, eqb}
 use Rattle.std.specs.List.{list_any}
 use Rattle.std.proofs.lemmas.List.{take_rest}
 use Rattle.bstr.specs.Find.{is_byte}

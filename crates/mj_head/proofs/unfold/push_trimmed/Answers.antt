@@ -1,6 +1,5 @@
-use Rattle.std.proofs.Common.{◌≡◌, eqb, length, true, rules}
-use Rattle.std.specs.Result.{OnOk, is_ok}
-use Rattle.mj_terms.specs.Text.{trim_front}
+use Rattle.std.proofs.Common.{◌≡◌, eqb, length, rules}
+use Rattle.std.specs.Result.{is_ok}
 use Rattle.mj_head.proofs.Unfolding.{pushed_new, pushed_same, on_ok_from}
 use Rattle.mj_head.proofs.unfold.push_trimmed.Goals as goal
 

@@ -1,6 +1,5 @@
-use Rattle.std.proofs.Common.{◌+◌, ◌++◌, List, ℕ, ap, ◌∙◌, sym}
+use Rattle.std.proofs.Common.{◌+◌}
 use Rattle.std.proofs.lemmas.List.{take_rest}
-use Rattle.mj_head.specs.Fields.{without_crlf}
 use Rattle.mj_head.proofs.Unfolding.{crlf_split, crlf_whole}
 use Rattle.mj_head.proofs.unfold.split_line.Goals as goal
 

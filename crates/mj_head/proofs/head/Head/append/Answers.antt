@@ -1,14 +1,13 @@
-use Rattle.std.proofs.Common.{◌≡◌, ◌+◌, ◌≤◌, [], ◌∷◌, ◌++◌, true, false, length, ap, sym, refl, arith}
+use Rattle.std.proofs.Common.{◌≡◌, ◌∷◌, length, sym, refl, arith}
 use Rattle.std.proofs.lemmas.Bool.{false≢true}
-use Rattle.mj_head.specs.Head.{written, is_head}
+use Rattle.mj_head.specs.Head.{written}
 use Rattle.mj_head.proofs.Whole.{length-written_push}
 use Rattle.mj_head.proofs.Changes.{head_short, is_head_push, value_formed}
 use Rattle.mj_head.proofs.head.Head.append.Goals as goal
 
 pub returns-then-needed-self-clause-fits : goal.returns-then-needed-self-clause-fits
 returns-then-needed-self-clause-fits c =
-    let len : length (written c.args.self.now) ≡ c.self.inside.written_len = rw (← c.self.view_is) (sym c.self.invariant.1) in
-    (
+    let len : length (written c.args.self.now) ≡ c.self.inside.written_len = rw (← c.self.view_is) (sym c.self.invariant.1) in (
       λ no. absurd (false≢true no),
       λ short. absurd (omega (arith, short, len, head_short c.self.inside.fields.items c.self.invariant.0, length-written_push c.args.self.now (c.args.name.now, 32 ∷ c.args.value.now))),
     )
