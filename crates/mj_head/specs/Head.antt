@@ -5,7 +5,7 @@ use Rattle.mj_terms.specs.Text.{is_blank, trim_back}
 use Rattle.mj_head.specs.declared.fault.HeadFault.{HeadFault}
 use Rattle.mj_head.specs.declared.fault.HeadFault.TheVariants.{ContinuationFirst, NoColon, BadName, TooLong, Memory}
 
--- ---- Lines
+-- ---- Lines (2.1)
 
 -- the first line with a byte in front of it
 abbrev pub lengthened : ℕ → List (List ℕ) → List (List ℕ)
@@ -39,7 +39,7 @@ abbrev pub body_place : List (List ℕ) → ℕ
 body_place [] = 0
 body_place (line ∷ rest) = if length (content line) == 0 then length line else length line + body_place rest
 
--- ---- Fields
+-- ---- Fields (2.2)
 
 -- what stands before the first colon, and what stands behind it
 abbrev pub before_colon : List ℕ → List ℕ
@@ -61,7 +61,7 @@ is_name_byte b = nat_le 33 b && nat_le b 126 && not (b == 58)
 abbrev pub is_field_name : List ℕ → Bool
 is_field_name name = not (length name == 0) && list_all is_name_byte name
 
--- a line that begins with a space or a tab continues the field before it
+-- a line that begins with a space or a tab continues the field before it (2.2.3)
 abbrev pub is_continuation : List ℕ → Bool
 is_continuation [] = false
 is_continuation (b ∷ line) = is_blank b

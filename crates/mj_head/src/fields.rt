@@ -32,7 +32,8 @@ pub(crate) fn count_named(fields: &[Field], name: &[u8]) -> usize
 
 /// Takes out the fields of this name.
 pub(crate) fn remove_named(fields: &mut Vec<Field>, name: &[u8])
-    ensures { fields.new.items ≡ filter (λ field. not (is_named name.now field)) fields.old.items }
+    ensures { fields.new.items
+        ≡ filter (λ field. not (is_named name.now field)) fields.old.items }
 {
     fields.retain(|field| !field.is_named(name));
 }
@@ -74,7 +75,8 @@ pub(crate) fn copy_fields(alloc: Global, fields: &[Field]) -> Result<Vec<Field>,
 /// Gives the field at this place another raw body.
 pub(crate) fn set_body(fields: &mut Vec<Field>, place: usize, body: Vec<u8>)
     requires { place < vec_len fields.old }
-    ensures { (field : RawField) → fields.new.items ≡ slice_set fields.old.items place ((slice_index_or fields.old.items place field).0, body.items) }
+    ensures { (field : RawField) → fields.new.items
+        ≡ slice_set fields.old.items place ((slice_index_or fields.old.items place field).0, body.items) }
 {
     let field = &mut fields[place];
     field.body = body;

@@ -122,8 +122,10 @@ impl Head {
     pub fn append(&mut self, name: &[u8], value: &[u8]) -> Result<bool, AllocError>
         requires name { is_field_name name.now ≡ true }
         requires value { is_field_value value.now ≡ true }
-        ensures fits { IfOk result (λ added. IsTrue added ↔ (length (written (self.old ++ (name.now, 32 ∷ value.now) ∷ [])) ≤ 65536)) }
-        ensures added { result ≡ Result.Ok true → self.new ≡ self.old ++ (name.now, 32 ∷ value.now) ∷ [] }
+        ensures fits { IfOk result (λ added. IsTrue added
+            ↔ (length (written (self.old ++ (name.now, 32 ∷ value.now) ∷ [])) ≤ 65536)) }
+        ensures added { result ≡ Result.Ok true
+            → self.new ≡ self.old ++ (name.now, 32 ∷ value.now) ∷ [] }
         ensures refused { result ≡ Result.Ok false → self.new ≡ self.old }
         ensures err { OnErr result (self.new ≡ self.old) }
     {
@@ -144,8 +146,10 @@ impl Head {
     pub fn replace_first(&mut self, name: &[u8], value: &[u8]) -> Result<bool, AllocError>
         requires name { is_field_name name.now ≡ true }
         requires value { is_field_value value.now ≡ true }
-        ensures fits { IfOk result (λ replaced. IsTrue replaced ↔ (length (written (replaced_first name.now (32 ∷ value.now) self.old)) ≤ 65536)) }
-        ensures replaced { result ≡ Result.Ok true → self.new ≡ replaced_first name.now (32 ∷ value.now) self.old }
+        ensures fits { IfOk result (λ replaced. IsTrue replaced
+            ↔ (length (written (replaced_first name.now (32 ∷ value.now) self.old)) ≤ 65536)) }
+        ensures replaced { result ≡ Result.Ok true
+            → self.new ≡ replaced_first name.now (32 ∷ value.now) self.old }
         ensures refused { result ≡ Result.Ok false → self.new ≡ self.old }
         ensures err { OnErr result (self.new ≡ self.old) }
     {
@@ -159,8 +163,10 @@ impl Head {
     fn replace_at(&mut self, place: usize, value: &[u8]) -> Result<bool, AllocError>
         requires place { place < length self.old }
         requires value { is_field_value value.now ≡ true }
-        ensures fits { IfOk result (λ replaced. IsTrue replaced ↔ (length (written (with_body self.old place (32 ∷ value.now))) ≤ 65536)) }
-        ensures replaced { result ≡ Result.Ok true → self.new ≡ with_body self.old place (32 ∷ value.now) }
+        ensures fits { IfOk result (λ replaced. IsTrue replaced
+            ↔ (length (written (with_body self.old place (32 ∷ value.now))) ≤ 65536)) }
+        ensures replaced { result ≡ Result.Ok true
+            → self.new ≡ with_body self.old place (32 ∷ value.now) }
         ensures refused { result ≡ Result.Ok false → self.new ≡ self.old }
         ensures err { OnErr result (self.new ≡ self.old) }
     {
@@ -180,8 +186,10 @@ impl Head {
     /// name, a LF of the body doesn't stand between a CR and a blank, or the written form would have
     /// more than 65,536 bytes.
     pub fn add_raw(&mut self, name: &[u8], body: &[u8]) -> Result<bool, AllocError>
-        ensures answer { IfOk result (λ added. IsTrue added ↔ IsSomeHead (self.old ++ (name.now, body.now) ∷ [])) }
-        ensures added { result ≡ Result.Ok true → self.new ≡ self.old ++ (name.now, body.now) ∷ [] }
+        ensures answer { IfOk result (λ added. IsTrue added
+            ↔ IsSomeHead (self.old ++ (name.now, body.now) ∷ [])) }
+        ensures added { result ≡ Result.Ok true
+            → self.new ≡ self.old ++ (name.now, body.now) ∷ [] }
         ensures refused { result ≡ Result.Ok false → self.new ≡ self.old }
         ensures err { OnErr result (self.new ≡ self.old) }
     {
@@ -199,7 +207,8 @@ impl Head {
     /// CRLFs (RFC 5322, 2.2.3), and without spaces and tabs at both ends. `None` exactly where no
     /// field has this name.
     pub fn unfolded(&self, alloc: Global, name: &[u8]) -> Result<Option<Vec<u8>>, AllocError>
-        ensures { IfOk result (λ value. option_map (λ text. text.items) value ≡ unfolded name.now self.now) }
+        ensures { IfOk result (λ value.
+            option_map (λ text. text.items) value ≡ unfolded name.now self.now) }
     {
         match first_named(&self.fields, name) {
             Some(field) => Ok(Some(unfold(alloc, field.body())?)),
@@ -212,7 +221,8 @@ impl Head {
 pub fn write_head(alloc: Global, head: &Head) -> Result<Vec<u8>, AllocError>
     ensures written { IfOk result (λ text. text.items ≡ written head.now) }
     // With an empty line behind it, it is read as this head, whatever follows.
-    ensures read_again { IfOk result (λ text. (body : List ℕ) → head_of (text.items ++ 13 ∷ 10 ∷ body) ≡ Result.Ok (head.now, length text.items + 2)) }
+    ensures read_again { IfOk result (λ text. (body : List ℕ)
+        → head_of (text.items ++ 13 ∷ 10 ∷ body) ≡ Result.Ok (head.now, length text.items + 2)) }
 {
     let mut text = Vec::with_capacity(alloc, head.written_len())?;
     head.write_to(&mut text)?;

@@ -87,7 +87,9 @@ pub(crate) fn without_blanks_at_end(text: &[u8]) -> &[u8]
 
 /// What stands before the first colon, and what stands behind it.
 fn split_at_colon(line: &[u8]) -> Option<(&[u8], &[u8])>
-    ensures { MatchOption result (list_any (λ b. b == 58) line.now ≡ false) (λ parts. (list_any (λ b. b == 58) line.now ≡ true) × (before_colon line.now ≡ parts.0.now) × (after_colon line.now ≡ parts.1.now)) }
+    ensures { MatchOption result (list_any (λ b. b == 58) line.now ≡ false)
+        (λ parts. (list_any (λ b. b == 58) line.now ≡ true)
+        × (before_colon line.now ≡ parts.0.now) × (after_colon line.now ≡ parts.1.now)) }
 {
     let colon = line.find_byte(b':')?;
     Some((&line[..colon], &line[colon + 1..]))
@@ -97,7 +99,8 @@ fn split_at_colon(line: &[u8]) -> Option<(&[u8], &[u8])>
 fn field_parts(line: &[u8], number: u32) -> Result<(&[u8], &[u8]), HeadFault>
     requires { is_continuation line.now ≡ true → number ≡ 1 }
     ensures parts { IfOk result (λ parts. BeginsField number line.now parts.0.now parts.1.now) }
-    ensures short { IfOk result (λ parts. length parts.0.now + length parts.1.now ≤ length line.now) }
+    ensures short { IfOk result (λ parts.
+        length parts.0.now + length parts.1.now ≤ length line.now) }
     ensures fault { IfErr result (λ fault. IsFault fault (form_fault number line.now)) }
 {
     if begins_with_blank(line) {

@@ -31,7 +31,8 @@ fn line_to(body: &[u8], end: usize) -> &[u8]
 
 /// The first line, without the CRLF at its end, and what stands behind it; `None` where no LF does.
 fn split_line(body: &[u8]) -> Option<(&[u8], &[u8])>
-    ensures cases { MatchOption result (without_crlf body.now ≡ body.now) (λ parts. without_crlf body.now ≡ parts.0.now ++ without_crlf parts.1.now) }
+    ensures cases { MatchOption result (without_crlf body.now ≡ body.now)
+        (λ parts. without_crlf body.now ≡ parts.0.now ++ without_crlf parts.1.now) }
     ensures shorter { IfSome result (λ parts. length parts.1.now < length body.now) }
 {
     let end = body.find_byte(b'\n')?;
@@ -54,7 +55,8 @@ fn trimmed_first(is_first: bool, part: &[u8]) -> &[u8]
 fn push_trimmed(text: &mut Vec<u8>, part: &[u8]) -> Result<(), AllocError>
     requires { trim_front text.old.items ≡ text.old.items }
     ensures trimmed { trim_front text.new.items ≡ text.new.items }
-    ensures same { OnOk result ((rest : List ℕ) → trim_front (text.new.items ++ rest) ≡ trim_front (text.old.items ++ part.now ++ rest)) }
+    ensures same { OnOk result ((rest : List ℕ)
+        → trim_front (text.new.items ++ rest) ≡ trim_front (text.old.items ++ part.now ++ rest)) }
 {
     let part = trimmed_first(text.is_empty(), part);
     text.extend_from_slice(part)
