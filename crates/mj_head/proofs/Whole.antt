@@ -1,14 +1,11 @@
 -- The reader's loop: what was read so far, and what the whole text has.
-use Rattle.std.proofs.Common.{◌≡◌, ℕ, ◌+◌, ◌≤◌, true, eqb, leb, List, [], ◌∷◌, ◌++◌, length, Option, None, Ok, Err, sym, ap, subst, ◌∙◌, append_assoc, arith}
+use Rattle.std.proofs.Common.{◌≡◌, ℕ, ◌+◌, ◌≤◌, true, eqb, leb, List, [], ◌∷◌, ◌++◌, length, None, sym, ap, ◌∙◌, append_assoc, arith}
 use Rattle.std.specs.List.{list_all}
 use Rattle.std.proofs.lemmas.Bool.{and_from, eqb-true, le-leb, both_ways}
 use Rattle.std.proofs.lemmas.List.{length-append, append-nil, nil_from_length}
-use Rattle.mj_head.specs.declared.fault.HeadFault.{HeadFault}
-use Rattle.mj_head.specs.declared.fault.HeadFault.TheVariants.{ContinuationFirst, NoColon, BadName, TooLong, Memory}
 use Rattle.mj_head.specs.declared.cursor.Cursor.{Cursor}
-use Rattle.mj_head.specs.Head.{RawField, lines, head_lines, body_place, fields_of, written, first_fault, unless, head_of, Gives, is_field, is_head}
-use Rattle.mj_head.specs.Reading.{begins_continued, IsFault, head_at, fault_from, ReadsField, empty_line_len}
-use Rattle.mj_head.proofs.Steps.{place_over}
+use Rattle.mj_head.specs.Head.{RawField, lines, head_lines, body_place, fields_of, written, first_fault, is_field, is_head}
+use Rattle.mj_head.specs.Reading.{begins_continued, head_at, fault_from, ReadsField}
 use Rattle.mj_head.proofs.Forms.{lines_lack, fields_formed}
 
 -- these fields were read of the bytes up to the cursor
@@ -31,18 +28,6 @@ length-written_push (g ∷ fs) f =
       length-append g.0 ((58 ∷ g.1) ++ ((13 ∷ 10 ∷ []) ++ written fs)),
       length-append g.1 ((13 ∷ 10 ∷ []) ++ written fs),
     )
-
--- where the head is over, all of it was read
-pub all_read : (bytes : List ℕ) (fields : List RawField) (cursor : Cursor) (place : ℕ) → ReadSoFar bytes fields cursor → eqb (length (head_at cursor)) 0 ≡ true → place + length cursor.rest.now ≡ length bytes + empty_line_len cursor.rest.now → head_of bytes ≡ Ok (fields, place)
-all_read bytes fields cursor place h over at =
-    let head = head_lines (lines bytes) in
-    let nil : head_at cursor ≡ [] = nil_from_length (head_at cursor) (eqb-true (length (head_at cursor)) 0 over) in
-    let fault : first_fault 65536 1 0 head ≡ None = h.fault ∙ ap (first_fault 65536 cursor.line cursor.written) nil in
-    let fields-are : fields_of head ≡ fields = sym h.fields ∙ ap (λ ls. fields ++ fields_of ls) nil ∙ append-nil fields in
-    let place-is : body_place (lines bytes) ≡ place = omega (arith, h.place, at, place_over cursor.rest.now over) in
-    ap (λ (o : Option HeadFault). unless o (fields_of head, body_place (lines bytes))) fault
-    ∙ ap (λ (fs : List RawField). unless None (fs, body_place (lines bytes))) fields-are
-    ∙ ap (λ (n : ℕ). unless None (fields, n)) place-is
 
 -- and it is a head
 pub head_read : (bytes : List ℕ) (fields : List RawField) (cursor : Cursor) → ReadSoFar bytes fields cursor → eqb (length (head_at cursor)) 0 ≡ true → is_head fields ≡ true
@@ -67,13 +52,3 @@ reads_on bytes fields field from to h r shorter = record {
 } where
   ends : begins_continued (lines to.rest.now) ≡ true → ⊥
   ends e = both_ways (begins_continued (lines to.rest.now)) r.ends e
-
--- a fault found from the cursor on is the text's
-pub fault_read : (fault : HeadFault) (bytes : List ℕ) (fields : List RawField) (cursor : Cursor) → ReadSoFar bytes fields cursor → IsFault fault (fault_from cursor) → Gives (Err fault) (head_of bytes)
-fault_read fault bytes fields cursor h f = given fault (first_fault 65536 1 0 (head_lines (lines bytes))) (fields_of (head_lines (lines bytes)), body_place (lines bytes)) (let P : Option HeadFault → Type 0 = λ o. IsFault fault o in subst P (sym h.fault) f) where
-  given : (fault : HeadFault) (o : Option HeadFault) (x : List RawField × ℕ) → IsFault fault o → Gives (Err fault) (unless o x)
-  given (ContinuationFirst n) o x e = ap (λ (p : Option HeadFault). unless p x) e
-  given (NoColon n) o x e = ap (λ (p : Option HeadFault). unless p x) e
-  given (BadName n) o x e = ap (λ (p : Option HeadFault). unless p x) e
-  given (TooLong n) o x e = ap (λ (p : Option HeadFault). unless p x) e
-  given Memory o x e = tt
