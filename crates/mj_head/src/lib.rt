@@ -1,0 +1,19 @@
+//! Heads of messages (RFC 5322, 2.2): reading, writing and changing their fields.
+#![tactic(auto)]
+
+mod cursor;
+mod fault;
+mod field;
+mod fields;
+mod head;
+mod line;
+mod read;
+mod unfold;
+
+pub use fault::HeadFault;
+pub use field::Field;
+pub use head::{Head, write_head};
+pub use read::{is_field_name, is_field_value, read_head};
+
+#[cfg(test)]
+mod tests;

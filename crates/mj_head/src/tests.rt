@@ -1,0 +1,126 @@
+//! Heads from outside of the crate: whole messages, and short hostile texts.
+use super::*;
+use std::alloc::{AllocError, Global};
+use std::test::Fail;
+
+const MESSAGE: &str =
+    "Received: from a.test by mx.example.org; Mon, 01 Jan 2024 00:00:00 +0000\r\nFrom: Cara <cara@example.net>\r\nTo: Ann <ann@example.org>,\r\n dan@example.net\r\nSubject: =?UTF-8?Q?Gr=C3=BC=C3=9Fe?=\r\nMessage-ID: <1@example.net>\r\nMIME-Version: 1.0\r\nContent-Type: text/plain; charset=utf-8\r\n\r\nhello\r\n";
+
+fn place_of(alloc: Global, bytes: &[u8]) -> Result<usize, HeadFault> {
+    let (_head, place) = read_head(alloc, bytes)?;
+    Ok(place)
+}
+
+#[test]
+fn finds_the_body_and_the_first_fault(rt: HostRuntime) {
+    let rows = [
+        ("", Ok(0)),
+        ("\n", Ok(1)),
+        ("\r\n", Ok(2)),
+        ("\r\na: b\r\n", Ok(2)),
+        ("Subject: one", Ok(12)),
+        ("Subject: one\n\nhello\r\n", Ok(14)),
+        ("Subject: one\r\n\r\nhello\r\n", Ok(16)),
+        ("a: b\r\r\n\r\nc", Ok(9)),
+        ("a: b\rc\r\n\r\n", Ok(10)),
+        ("a \t : b\r\n", Ok(9)),
+        ("a:\r\n \r\n\r\nb", Ok(9)),
+        (" a: b\r\n", Err(HeadFault::ContinuationFirst { line: 1 })),
+        ("\t\r\n", Err(HeadFault::ContinuationFirst { line: 1 })),
+        ("\r", Err(HeadFault::NoColon { line: 1 })),
+        (
+            "a: b\r\nc: d\r\nnone\r\n: x",
+            Err(HeadFault::NoColon { line: 3 }),
+        ),
+        (": x\r\n", Err(HeadFault::BadName { line: 1 })),
+        ("a b: c\r\n", Err(HeadFault::BadName { line: 1 })),
+        (
+            "a: b\n c\n\0: d\nnone\n",
+            Err(HeadFault::BadName { line: 3 }),
+        ),
+        (MESSAGE, Ok(280)),
+    ];
+    for (text, want) in rows {
+        assert!(rt;
+            place_of(rt.alloc(), text.as_bytes()) == want,
+            "at {text:?}"
+        );
+    }
+    assert_eq!(rt; MESSAGE.len(), 287);
+}
+
+#[test]
+fn limits_the_written_form(rt: HostRuntime) -> Result<(), Fail> {
+    let mut text = Vec::new(rt.alloc());
+    text.extend_from_slice(b"a:")?;
+    for _ in 0..65_532 {
+        text.push(b'x')?;
+    }
+    assert!(rt; place_of(rt.alloc(), &text) == Ok(65_534));
+    text.push(b'x')?;
+    assert!(rt; place_of(rt.alloc(), &text) == Err(HeadFault::TooLong { line: 1 }));
+    text.truncate(65_530);
+    text.extend_from_slice(b"\n x")?;
+    assert!(rt; place_of(rt.alloc(), &text) == Ok(65_533));
+    text.push(b'x')?;
+    assert!(rt; place_of(rt.alloc(), &text) == Err(HeadFault::TooLong { line: 2 }));
+    Ok(())
+}
+
+#[test]
+fn unfolds_fields(rt: HostRuntime) -> Result<(), Fail> {
+    let (head, _place) = read_head(rt.alloc(), b"Subject: a\r\n\tb\r\nX: 1\r\nx: 2\r\n\r\n")?;
+    let subject = head.unfolded(rt.alloc(), b"SUBJECT")?.ok_or("no subject")?;
+    assert!(rt; subject.as_slice() == b"a\tb".as_slice());
+    assert!(rt; head.unfolded(rt.alloc(), b"To")?.is_none());
+    assert!(rt; head.count(b"X") == 2);
+    Ok(())
+}
+
+#[test]
+fn replaces_and_writes(rt: HostRuntime) -> Result<(), Fail> {
+    let (mut head, _place) = read_head(rt.alloc(), b"Subject: one\r\n\r\nhello\r\n")?;
+    let name = b"subject".as_slice();
+    let value = b"[x] one".as_slice();
+    assert!(rt; is_field_name(name));
+    assert!(rt; is_field_value(value));
+    assert!(rt; head.replace_first(name, value)?);
+    let text = write_head(rt.alloc(), &head)?;
+    assert!(rt; text.as_slice() == b"Subject: [x] one\r\n".as_slice());
+    Ok(())
+}
+
+#[test]
+fn adds_raw_fields(rt: HostRuntime) -> Result<(), Fail> {
+    let mut head = Head::new(rt.alloc());
+    assert!(rt; head.add_raw(b"Y", b" a\r\n b")?);
+    assert!(rt; !head.add_raw(b"Y", b" a\n b")?);
+    let copy = head.copy(rt.alloc())?;
+    assert!(rt; copy.written_len() == 10);
+    Ok(())
+}
+
+/// Whether the field was added.
+fn appends(head: &mut Head, name: &[u8], value: &[u8]) -> Result<bool, AllocError> {
+    if is_field_name(name) && is_field_value(value) {
+        head.append(name, value)
+    } else {
+        Ok(false)
+    }
+}
+
+#[test]
+fn appends_what_fits(rt: HostRuntime) -> Result<(), Fail> {
+    let mut value = Vec::new(rt.alloc());
+    for _ in 0..65_525 {
+        value.push(b'x')?;
+    }
+    let mut head = Head::new(rt.alloc());
+    assert!(rt; appends(&mut head, b"A", &value)?);
+    assert!(rt; head.written_len() == 65_530);
+    assert!(rt; !appends(&mut head, b"X-Longer", b"")?);
+    assert!(rt; head.written_len() == 65_530);
+    assert!(rt; appends(&mut head, b"X", b"")?);
+    assert!(rt; head.written_len() == 65_535);
+    Ok(())
+}
