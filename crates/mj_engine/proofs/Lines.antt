@@ -4,7 +4,8 @@ use Rattle.std.specs.List.{flat_map, enumerate_from, slice_get}
 use Rattle.mj_mail.specs.declared.fact.Fact.{Fact}
 use Rattle.mj_mail.specs.declared.name.Name.{Name}
 use Rattle.mj_mail.specs.Meaning.{Placed}
-use Rattle.mj_engine.specs.Report.{spelled, recipients_text, separator}
+use Rattle.mj_address.specs.Reading.{spelled}
+use Rattle.mj_engine.specs.Report.{recipients_text, separator}
 
 -- facts with their places, the first of them under this number
 abbrev pub placed_from : Name → ℕ → List Fact → List Placed

@@ -2,6 +2,7 @@
 use Rattle.std.specs.Prelude.{ℕ, zero, suc, ◌+◌, ◌/◌, ◌%◌, nat_le, nat_lt, ◌==◌, Bool, ◌&&◌, ◌||◌, not, if◌then◌else◌, List, [], ◌∷◌, ◌++◌, codes}
 use Rattle.std.specs.Fmt.{decimal}
 use Rattle.std.specs.List.{flat_map}
+use Rattle.mj_address.specs.Reading.{spelled}
 use Rattle.mj_mail.specs.declared.fact.Fact.{Fact}
 use Rattle.mj_mail.specs.declared.fact.Fact.TheVariants.{Deposit}
 use Rattle.mj_mail.specs.Mail.{size}
@@ -11,10 +12,6 @@ use Rattle.mj_mailfile.specs.declared.fault.MailFault.{MailFault}
 use Rattle.mj_mailfile.specs.declared.fault.MailFault.TheVariants.{TooLarge, NoMailFrom, BadSender, BadRecipient, TooManyRecipients, NoRecipient, NoData, BadHead, HeadTooLong, Memory}
 use Rattle.mj_engine.specs.declared.refusal.Refusal.{Refusal}
 use Rattle.mj_engine.specs.declared.refusal.Refusal.TheVariants.{LongName, Fault}
-
--- an address as it is spelled
-abbrev pub spelled : List ℕ × List ℕ → List ℕ
-spelled address = address.0 ++ 64 ∷ address.1
 
 -- the addresses as they are spelled, joined by commas
 abbrev pub recipients_text : List (List ℕ × List ℕ) → List ℕ

@@ -4,12 +4,15 @@ ghost use Rattle.std.specs.Fmt.{decimal};
 ghost use Rattle.mj_mail.specs.Meaning.{placed, tree};
 ghost use Rattle.mj_mail.specs.Mail.{size};
 ghost use Rattle.mj_engine.specs.Step.{step as step_of};
-ghost use Rattle.mj_engine.specs.Report.{spelled, recipients_text, separator, fact_text, fact_line, line_of, name_byte, hex_digit as hex_digit_of, file_text, fault_text, refusal_text, refused_line, is_plain_byte};
+ghost use Rattle.mj_address.specs.Reading.{spelled};
+ghost use Rattle.mj_engine.specs.Report.{recipients_text, separator, fact_text, fact_line, line_of, name_byte, hex_digit as hex_digit_of, file_text, fault_text, refusal_text, refused_line, is_plain_byte};
 
 use crate::step::step;
 use crate::{Plan, Refusal};
+use mj_address::{Address, Recipients};
 use mj_fields::{Bytes, Memory};
-use mj_mail::{Address, Body, Fact, Head, Mail, Name, NewMail, Recipients, name_text, put_number};
+use mj_head::Head;
+use mj_mail::{Body, Fact, Mail, Name, NewMail, name_text, put_number};
 use mj_mailfile::MailFault;
 use std::alloc::Global;
 

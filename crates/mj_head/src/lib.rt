@@ -13,6 +13,7 @@ mod unfold;
 pub use fault::HeadFault;
 pub use field::Field;
 pub use head::{Head, write_head};
+pub use line::first_line;
 pub use read::{is_field_name, is_field_value, read_head};
 
 #[cfg(test)]

@@ -16,8 +16,9 @@ fn without_cr(line: &[u8]) -> &[u8]
     &line[..n - 1]
 }
 
-/// The first line without its end, and the bytes behind it.
-pub(crate) fn first_line(bytes: &[u8]) -> (&[u8], &[u8])
+/// The first line of bytes, of which there is at least one, without its end, and the bytes behind it. A line ends at LF,
+/// and one CR right before that LF belongs to the line end; the last line may end with the bytes.
+pub fn first_line(bytes: &[u8]) -> (&[u8], &[u8])
     requires { 0 < length bytes.now }
     ensures first { IsFirstLine bytes.now result.0.now result.1.now }
     ensures shorter { length result.1.now < length bytes.now }

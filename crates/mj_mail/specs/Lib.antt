@@ -1,4 +1,3 @@
-pub mod Head
 pub mod Mail
 pub mod Meaning
 pub mod Name

@@ -5,7 +5,7 @@ use Rattle.mj_mail.specs.declared.mail.Body.TheVariants.{Original}
 use Rattle.mj_mail.specs.declared.mail.Mail.{Mail}
 use Rattle.mj_mail.specs.declared.mail.NewMail.{NewMail}
 use Rattle.mj_mail.specs.declared.mail.Stage.TheVariants.{Process}
-use Rattle.mj_mail.specs.Head.{written}
+use Rattle.mj_head.specs.Head.{written}
 
 -- the processor in which each accepted mail begins
 abbrev pub root : List ℕ

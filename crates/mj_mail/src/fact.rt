@@ -1,5 +1,7 @@
-use crate::{Address, Body, Head, Mail, Recipients};
+use crate::{Body, Mail};
+use mj_address::{Address, Recipients};
 use mj_fields::{Bytes, Items};
+use mj_head::Head;
 
 /// What has happened to a mail.
 #[derive(Debug, Drop)]

@@ -2,14 +2,10 @@
 //! list of all facts about it.
 #![tactic(auto)]
 
-mod address;
 mod fact;
-mod head;
 mod mail;
 mod name;
 
-pub use address::{Address, Domain, Recipients};
 pub use fact::{Fact, Outcome};
-pub use head::{Field, Head};
 pub use mail::{Body, Mail, NewMail, Stage};
 pub use name::{Name, name_text, put_number};

@@ -1,8 +1,10 @@
 ghost use Rattle.std.specs.Prelude.{◌≡◌, ◌<◌, ◌^◌, length, IfOk};
 ghost use Rattle.mj_mail.specs.Mail.{first, body_len};
 
-use crate::{Address, Head, Name, Recipients};
+use crate::Name;
+use mj_address::{Address, Recipients};
 use mj_fields::{Bytes, Items, Memory};
+use mj_head::Head;
 use std::alloc::Global;
 
 /// A mail that comes in: its envelope (RFC 5321, 2.3.1), where no sender is the null reverse-path, and its
