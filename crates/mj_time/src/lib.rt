@@ -1,0 +1,10 @@
+//! Delay lists of retries, moments that are read, and dates as mail writes them.
+#![tactic(auto)]
+
+
+mod delays;
+mod digits;
+
+mod texts;
+
+
