@@ -1,2 +1,4 @@
 pub mod Numerals
+pub mod Parts
+pub mod Short
 pub mod Trims

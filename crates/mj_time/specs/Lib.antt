@@ -1,2 +1,5 @@
 pub mod Delays
 pub mod Digits
+pub mod Draft
+pub mod Limits
+pub mod Schedule
