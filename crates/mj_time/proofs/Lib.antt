@@ -1,3 +1,4 @@
+pub mod Drafts
 pub mod Numerals
 pub mod Parts
 pub mod Short

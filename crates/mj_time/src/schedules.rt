@@ -2,10 +2,11 @@
 ghost use Rattle.std.specs.Prelude.{◌≡◌, ◌+◌, ◌-◌, ◌≤◌, ◌<◌, ◌^◌, [], ◌∷◌, ◌++◌, true, length, replicate, vec_len, slice_get, IfOk, IfSome, OnOk};
 ghost use Rattle.std.specs.List.{list_all, slice_split};
 ghost use Rattle.std.specs.Option.{option_copied, ForSome};
+ghost use Rattle.mj_time.specs.declared.schedules.ScheduleFault.TheVariants.{Memory};
 ghost use Rattle.mj_time.specs.Limits.{IsSchedule, is_short};
 ghost use Rattle.mj_time.specs.Delays.{entry_of};
-ghost use Rattle.mj_time.specs.Schedule.{Gives, checked, extended, is_comma};
-ghost use Rattle.mj_time.specs.Draft.{completed, parts_of};
+ghost use Rattle.mj_time.specs.Schedule.{Gives, checked, extended, is_comma, schedule_of};
+ghost use Rattle.mj_time.specs.Draft.{completed, left, parts_of};
 
 
 use crate::delays::{Entry, read_entry};
@@ -37,6 +38,14 @@ pub enum ScheduleFault {
     Memory,
 }
 
+impl From<AllocError> for ScheduleFault {
+    ghost from_gives = { λ _ fault. fault ≡ Memory };
+
+    fn from(_error: AllocError) -> ScheduleFault {
+        ScheduleFault::Memory
+    }
+}
+
 /// The delays between the attempts of a delivery, in milliseconds: 1 to 100, each of at most seven
 /// days.
 #[derive(Debug, Drop)]
@@ -46,7 +55,8 @@ pub struct Schedule {
 
 impl Model for Schedule {
     ghost use Rattle.std.specs.Prelude.{List, ℕ};
-    ghost use Rattle.mj_time.specs.Limits.{IsSchedule};
+    ghost use Rattle.mj_time.specs.declared.schedules.ScheduleFault.TheVariants.{Memory};
+ghost use Rattle.mj_time.specs.Limits.{IsSchedule};
 
     ghost Value = { List ℕ };
 
@@ -104,7 +114,7 @@ impl Draft {
         if count > MOST_DELAYS {
             return Err(ScheduleFault::TooMany);
         }
-        let delays = extended(delays, count as usize).map_err(|_| ScheduleFault::Memory)?;
+        let delays = extended(delays, count as usize)?;
         Ok(Schedule { delays })
     }
 }
@@ -128,7 +138,7 @@ fn extended(mut delays: Vec<u64>, count: usize) -> Result<Vec<u64>, AllocError>
 #[tactic(auto, using(crate::proofs::Parts::uncut, crate::proofs::Parts::cut_at))]
 fn next_part(text: &[u8]) -> (&[u8], Option<&[u8]>)
     ensures parts { slice_split is_comma text.now ≡ result.0.now ∷ parts_of (option_copied result.1) }
-    ensures shorter { IfSome result.1 (λ rest. length rest.now < length text.now) }
+    ensures shorter { left (option_copied result.1) ≤ length text.now }
 {
     match place_of(text, b',') {
         None => (text, None),
@@ -152,4 +162,22 @@ fn entry_at(place: u32, text: &[u8]) -> Result<Entry, ScheduleFault>
             Ok(entry)
         }
     }
+}
+
+/// The schedule of a text.
+fn read_text(alloc: Global, text: &[u8], max_retries: u32) -> Result<Schedule, ScheduleFault>
+    requires { length text.now ≤ 1_048_576 }
+    ensures { Gives result (schedule_of (Some text.now) max_retries) }
+{
+    let mut draft = Draft::new(alloc);
+    let mut place = 1;
+    let mut rest = Some(text);
+    while let Some(text) = rest {
+        let (part, after) = next_part(text);
+        let entry = entry_at(place, part)?;
+        draft.add(entry)?;
+        place += 1;
+        rest = after;
+    }
+    draft.finish(max_retries)
 }
