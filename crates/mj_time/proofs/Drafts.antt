@@ -7,7 +7,7 @@ use Rattle.mj_time.specs.declared.delays.Entry.{Entry}
 use Rattle.mj_time.specs.declared.schedules.ScheduleFault.{ScheduleFault}
 use Rattle.mj_time.specs.declared.schedules.ScheduleFault.TheVariants.{TooMany}
 use Rattle.mj_time.specs.Delays.{entry_of}
-use Rattle.mj_time.specs.Schedule.{◌>>=◌, attempts, checked, entries_from, extended, is_comma, list_of, schedule_of, written_out}
+use Rattle.mj_time.specs.Schedule.{◌>>=◌, attempts, checked, default_entry, entries_from, extended, is_comma, list_of, schedule_of, written_out}
 use Rattle.mj_time.specs.Draft.{completed, parts_of}
 
 -- the schedule of so many attempts with these delays
@@ -56,3 +56,10 @@ start n (Err fault) = refl
 -- before the first entry the draft stands for the whole text
 pub completed_start : (n : ℕ) (text : List ℕ) → (entries_from 1 (slice_split is_comma text) >>= completed n 0 []) ≡ schedule_of (Some text) n
 completed_start n text = start n (entries_from 1 (slice_split is_comma text))
+
+-- the draft with the one entry that there is without a text
+pub completed_default : (n count total : ℕ) (delays more : List ℕ) → count ≡ 0 → delays ≡ [] → total ≡ count + 1 → (total ≤ 100 → more ≡ delays ++ replicate 1 21_600_000) → completed n total more [] ≡ schedule_of None n
+completed_default n count total delays more none empty sum grown =
+    ap (λ t. completed n t more []) (sum ∙ ap (λ k. k + 1) none)
+    ∙ completed_step n 0 [] more default_entry [] (λ few. grown (omega arith) ∙ ap (λ ds. ds ++ replicate 1 21_600_000) empty)
+    ∙ start n (Ok (default_entry ∷ []))

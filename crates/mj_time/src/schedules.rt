@@ -1,5 +1,5 @@
 //! The list of delays after failed attempts.
-ghost use Rattle.std.specs.Prelude.{◌≡◌, ◌+◌, ◌-◌, ◌≤◌, ◌<◌, ◌^◌, [], ◌∷◌, ◌++◌, true, length, replicate, vec_len, slice_get, IfOk, IfSome, OnOk};
+ghost use Rattle.std.specs.Prelude.{◌≡◌, ◌+◌, ◌-◌, ◌≤◌, ◌<◌, ◌^◌, [], ◌∷◌, ◌++◌, true, length, replicate, vec_len, slice_get, ◌↔◌, IsNone, IfOk, IfSome, OnOk};
 ghost use Rattle.std.specs.List.{list_all, slice_split};
 ghost use Rattle.std.specs.Option.{option_copied, ForSome};
 ghost use Rattle.mj_time.specs.declared.schedules.ScheduleFault.TheVariants.{Memory};
@@ -20,6 +20,12 @@ const LONGEST_DELAY: u64 = 604_800_000;
 
 /// The most delays that a schedule may have.
 const MOST_DELAYS: u64 = 100;
+
+/// Without a text: one attempt after six hours.
+const DEFAULT_ENTRY: Entry = Entry {
+    attempts: 1,
+    delay: 21_600_000,
+};
 
 /// Why a delay text gives no schedule. Places of entries count from 1.
 #[derive(Clone, Copy, Debug, PartialEq, Eq, Error)]
@@ -63,6 +69,62 @@ ghost use Rattle.mj_time.specs.Limits.{IsSchedule};
     ghost view = { λ s. s.delays.items };
 
     ghost invariant = { λ s. IsSchedule s.delays.items };
+}
+
+impl Schedule {
+    /// The schedule of a delay text for so many retries.
+    ///
+    /// A text has entries between commas, each of the form `attempts * delay unit`. `attempts *` and
+    /// the unit may be left out, and mean one attempt and milliseconds; blanks round each part are
+    /// dropped. Attempts and delay have 1 to 9 decimal digits, and there is at least one attempt.
+    /// Without a text there is the one entry of 21,600,000 ms. Each delay is listed as often as its
+    /// attempts, and the last one is repeated until there are `max_retries` delays.
+    ///
+    /// Entries are checked from the left, and their places count from 1: `BadDelay` is an entry of
+    /// another form, `TooLong` one of over 604,800,000 ms. `TooMany` comes last, and is a list of
+    /// over 100 delays.
+    pub fn read(
+        alloc: Global,
+        text: Option<&[u8]>,
+        max_retries: u32,
+    ) -> Result<Schedule, ScheduleFault>
+        requires { ForSome text (λ bytes. length bytes.now ≤ 1_048_576) }
+        // The schedule, or the first fault, by what the text says alone.
+        ensures exact { Gives result (schedule_of (option_copied text.entry) max_retries) }
+        ensures limits { IfOk result IsSchedule }
+    {
+        match text {
+            None => default_schedule(alloc, max_retries),
+            Some(text) => read_text(alloc, text, max_retries),
+        }
+    }
+
+    /// The delay after the attempt of this number, counted from 1, in milliseconds; None where the
+    /// list has no further delay.
+    pub fn delay_after(&self, attempt: u32) -> Option<u64>
+        requires { 1 ≤ attempt }
+        ensures member { result ≡ slice_get self.now (attempt - 1) }
+        ensures passed { IsNone result ↔ (length self.now < attempt) }
+        ensures short { IfSome result (λ delay. delay ≤ 604_800_000) }
+    {
+        self.delays.get(attempt as usize - 1).copied()
+    }
+
+    /// How many delays there are, from 1 to 100.
+    pub fn len(&self) -> usize
+        ensures value { result ≡ length self.now }
+        ensures limits { IsSchedule self.now }
+    {
+        self.delays.len()
+    }
+
+    /// An equal schedule.
+    pub fn copy(&self, alloc: Global) -> Result<Schedule, AllocError>
+        ensures { IfOk result (λ copy. copy ≡ self.now) }
+    {
+        let delays = self.delays.to_vec(alloc)?;
+        Ok(Schedule { delays })
+    }
 }
 
 /// The delays that the entries so far write out. More than 100 attempts are counted and not kept.
@@ -162,6 +224,15 @@ fn entry_at(place: u32, text: &[u8]) -> Result<Entry, ScheduleFault>
             Ok(entry)
         }
     }
+}
+
+/// The schedule where there is no text.
+fn default_schedule(alloc: Global, max_retries: u32) -> Result<Schedule, ScheduleFault>
+    ensures { Gives result (schedule_of None max_retries) }
+{
+    let mut draft = Draft::new(alloc);
+    draft.add(DEFAULT_ENTRY)?;
+    draft.finish(max_retries)
 }
 
 /// The schedule of a text.
