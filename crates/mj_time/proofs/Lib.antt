@@ -1,3 +1,4 @@
+pub mod Days
 pub mod Drafts
 pub mod Numerals
 pub mod Parts

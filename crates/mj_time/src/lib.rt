@@ -3,7 +3,9 @@
 
 mod delays;
 mod digits;
+mod moments;
 mod schedules;
 mod texts;
 
+pub use moments::MomentFault;
 pub use schedules::{Schedule, ScheduleFault};
