@@ -1,3 +1,4 @@
+pub mod DateLines
 pub mod Days
 pub mod Drafts
 pub mod Numerals

@@ -1,3 +1,4 @@
+pub mod DateText
 pub mod Delays
 pub mod Digits
 pub mod Draft

@@ -1,6 +1,7 @@
 //! Delay lists of retries, moments that are read, and dates as mail writes them.
 #![tactic(auto)]
 
+mod dates;
 mod delays;
 mod digits;
 mod moments;
