@@ -1,3 +1,4 @@
+pub mod Civil
 pub mod DateLines
 pub mod Days
 pub mod Drafts

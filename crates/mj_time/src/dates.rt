@@ -2,6 +2,7 @@
 ghost use Rattle.std.specs.Prelude.{◌≡◌, ◌<◌, ◌≤◌, ◌+◌, ◌/◌, ◌%◌, pos, ◌≤ℤ◌, unsigned_abs, IfOk, length};
 ghost use Rattle.std.specs.List.{flat_map};
 ghost use Rattle.jiff_core.specs.Date.{epoch_day, weekday_of};
+ghost use Rattle.jiff.specs.Types.{Date as CivilDate};
 ghost use Rattle.jiff_core.specs.Weekday.{monday_zero};
 ghost use Rattle.mj_time.specs.DateText.{two_digits, weekday_name, month_name, line_of, day_number, second_of_day, date_text_of, date_text_on};
 
@@ -118,4 +119,37 @@ fn line(alloc: Global, weekday: Weekday, parts: Parts) -> Result<Vec<u8>, AllocE
             b" +0000",
         ],
     )
+}
+
+/// The numbers of a date from 1970 on, and of the seconds since its midnight.
+#[tactic(auto, using(crate::proofs::Civil::late_year_of))]
+fn parts_of(date: Date, second: u32) -> Parts
+    requires { pos 0 ≤ℤ epoch_day date }
+    ensures year { result.year ≡ unsigned_abs date.year }
+    ensures year_small { result.year < 10_000 }
+    ensures month { result.month ≡ date.month }
+    ensures day { result.day ≡ date.day }
+    ensures second { result.second ≡ second }
+{
+    Parts {
+        year: u32::from(date.year().unsigned_abs()),
+        month: date.month() as u8,
+        day: date.day() as u32,
+        second,
+    }
+}
+
+/// The date text of a moment (RFC 5322, section 3.3), as `Mon, 01 Jan 2024 00:00:00 +0000`: 31
+/// bytes, the day with two digits, in UTC. The moment is in milliseconds since
+/// 1970-01-01T00:00:00Z and before the year 10000; its milliseconds are dropped.
+pub fn date_text(alloc: Global, moment: u64) -> Result<Vec<u8>, AllocError>
+    requires { moment < 253_402_300_800_000 }
+    ensures text { IfOk result (λ text. text.items ≡ date_text_of moment) }
+    // The same by the calendar: the date is the one whose day number is the moment's.
+    ensures civil { IfOk result (λ text. (d : CivilDate) → epoch_day d ≡ pos (day_number moment)
+        → text.items ≡ date_text_on d moment) }
+{
+    let date = date_at(moment / DAY);
+    let second = (moment / 1_000 % 86_400) as u32;
+    line(alloc, date.weekday(), parts_of(date, second))
 }

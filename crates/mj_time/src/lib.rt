@@ -8,5 +8,6 @@ mod moments;
 mod schedules;
 mod texts;
 
-pub use moments::MomentFault;
+pub use dates::date_text;
+pub use moments::{MomentFault, read_moment};
 pub use schedules::{Schedule, ScheduleFault};
