@@ -1,5 +1,5 @@
 -- The year, the month and the day that a day number is counted off to are those of the calendar's date.
-use Rattle.std.proofs.Common.{◌≡◌, ℕ, zero, suc, ◌+◌, ◌-◌, ◌*◌, ◌/◌, ◌<◌, ◌≤◌, Bool, true, false, cond, ltb, eqb, ℤ, pos, negsuc, neg_ℤ, ◌+ℤ◌, ◌-ℤ◌, ◌≤ℤ◌, ◌<ℤ◌, unsigned_abs, refl, sym, ap, ◌∙◌, arith, subst}
+use Rattle.std.proofs.Common.{◌≡◌, ℕ, zero, suc, ◌+◌, ◌-◌, ◌*◌, ◌/◌, ◌<◌, ◌≤◌, Bool, true, false, cond, ltb, ℤ, pos, negsuc, ◌-ℤ◌, ◌≤ℤ◌, ◌<ℤ◌, unsigned_abs, refl, sym, ap, ◌∙◌, arith, subst}
 use Rattle.std.specs.Prelude.{int_le}
 use Rattle.std.proofs.lemmas.Bool.Decides.{nat_tests}
 use Rattle.jiff_core.specs.declared.civil.date.Date.{Date}
@@ -8,7 +8,6 @@ use Rattle.jiff_core.specs.Date.{epoch_day, weekday_of}
 use Rattle.jiff_core.proofs.CalendarLemmas.{days_from_civil-day_count, days_in_year_bounds, day_count-day, day_count-day_of_year, day_count-epoch, day_count-lt_month, day_count-lt_year, day_count-next_year}
 use Rattle.jiff_core.proofs.SignedLemmas.{signed_arith}
 use Rattle.mj_time.specs.DateText.{day_of, line_of, has_begun, month_by, month_of, year_by, year_of}
-use borrow.Author.Differences.{up, down}
 
 begun_by : (a b : ℤ) (t : Bool) → int_le a b ≡ t → a ≤ℤ b → int_le a b ≡ true
 begun_by a b true e h = e

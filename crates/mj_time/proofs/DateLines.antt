@@ -1,5 +1,5 @@
 -- The pieces of a date line.
-use Rattle.std.proofs.Common.{◌≡◌, ℕ, ◌/◌, ◌%◌, List, [], ◌∷◌, ◌++◌, refl, ◌∙◌, codes}
+use Rattle.std.proofs.Common.{◌≡◌, ℕ, ◌/◌, ◌%◌, List, [], ◌∷◌, codes}
 use Rattle.std.specs.List.{concat}
 use Rattle.mj_time.specs.DateText.{line_of, month_name, two_digits, weekday_name}
 

@@ -1,5 +1,5 @@
 -- Day numbers from 1970 on.
-use Rattle.std.proofs.Common.{◌≡◌, ℕ, ◌+◌, ◌-◌, ◌<◌, ◌≤◌, Bool, true, false, ltb, ℤ, pos, neg_ℤ, ◌≤ℤ◌, ◌<ℤ◌, ◌&&◌, nat_le, IsTrue, to_z, w8, w16, refl, sym, ap, arith, subst}
+use Rattle.std.proofs.Common.{◌≡◌, ℕ, ◌<◌, ◌≤◌, Bool, true, false, ltb, ℤ, pos, ◌≤ℤ◌, ◌&&◌, nat_le, IsTrue, to_z, w8, w16, refl, sym, ap, arith, subst}
 use Rattle.std.proofs.lemmas.Bool.Decides.{nat_tests}
 use Rattle.jiff_core.specs.declared.civil.date.Date.{Date}
 use Rattle.jiff_core.specs.Calendar.{IsBetween, IsDate, IsYear, days_in_month, day_count, days_from_civil}
@@ -9,7 +9,6 @@ use Rattle.jiff_core.proofs.SignedLemmas.{back_small, signed_arith}
 use Rattle.mj_time.specs.declared.moments.Fields.{Fields}
 use Rattle.mj_time.specs.Fields.{HasFewDigits}
 use Rattle.mj_time.specs.Moment.{is_date, is_in_range}
-use borrow.Author.Differences.{up, down}
 
 year_from_epoch : (y : ℕ) (later : Bool) → ltb 1970 y ≡ later → 1970 ≤ y → 4_371_953 ≤ day_count (pos y) 1 1
 year_from_epoch y true e from =

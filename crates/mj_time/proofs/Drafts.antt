@@ -1,5 +1,5 @@
 -- What adding an entry to a draft leaves to be read.
-use Rattle.std.proofs.Common.{◌≡◌, ℕ, ◌+◌, ◌≤◌, ◌<◌, max, Bool, true, false, cond, ltb, List, [], ◌∷◌, ◌++◌, replicate, Option, Some, None, Result, Ok, Err, refl, sym, ap, ◌∙◌, arith, append_assoc, add_assoc}
+use Rattle.std.proofs.Common.{◌≡◌, ℕ, ◌+◌, ◌≤◌, max, Bool, true, false, cond, ltb, List, [], ◌∷◌, ◌++◌, replicate, Some, None, Result, Ok, Err, refl, sym, ap, ◌∙◌, arith, append_assoc, add_assoc}
 use Rattle.std.specs.List.{slice_split}
 use Rattle.std.proofs.lemmas.Grind.{common_steps}
 use Rattle.std.proofs.lemmas.Bool.Decides.{nat_tests}
@@ -8,7 +8,7 @@ use Rattle.mj_time.specs.declared.schedules.ScheduleFault.{ScheduleFault}
 use Rattle.mj_time.specs.declared.schedules.ScheduleFault.TheVariants.{TooMany}
 use Rattle.mj_time.specs.Delays.{entry_of}
 use Rattle.mj_time.specs.Schedule.{◌>>=◌, attempts, checked, default_entry, entries_from, extended, is_comma, list_of, schedule_of, written_out}
-use Rattle.mj_time.specs.Draft.{completed, parts_of}
+use Rattle.mj_time.specs.Draft.{completed}
 
 -- the schedule of so many attempts with these delays
 kept : ℕ → ℕ → List ℕ → Result (List ℕ) ScheduleFault

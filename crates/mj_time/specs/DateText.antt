@@ -1,5 +1,5 @@
 -- The date text of a moment (RFC 5322, 3.3), as `Mon, 01 Jan 2024 00:00:00 +0000`.
-use Rattle.std.specs.Prelude.{ℕ, zero, suc, ◌+◌, ◌-◌, ◌/◌, ◌%◌, Bool, if◌then◌else◌, ℤ, pos, ◌-ℤ◌, int_le, unsigned_abs, List, [], ◌∷◌, slice_index_or, codes}
+use Rattle.std.specs.Prelude.{ℕ, zero, suc, ◌+◌, ◌-◌, ◌/◌, ◌%◌, Bool, if◌then◌else◌, pos, ◌-ℤ◌, int_le, unsigned_abs, List, [], ◌∷◌, slice_index_or, codes}
 use Rattle.std.specs.List.{concat}
 use Rattle.jiff_core.specs.declared.civil.date.Date.{Date}
 use Rattle.jiff_core.specs.Calendar.{days_from_civil, weekday_number}

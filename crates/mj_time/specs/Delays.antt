@@ -1,14 +1,11 @@
 -- Delay texts: entries between commas, each of the form `attempts * delay unit`, where `attempts *` and the unit may be left out, and blanks round each part are dropped.
-use Rattle.std.specs.Prelude.{◌≡◌, ℕ, ◌+◌, ◌*◌, ◌≤◌, ◌==◌, Bool, true, nat_le, if◌then◌else◌, List, [], ◌∷◌, length, take, drop, take_while, position, Option, Some, None, option_and_then, codes}
-use Rattle.std.specs.List.{list_all, list_any, prefix_len}
+use Rattle.std.specs.Prelude.{ℕ, ◌+◌, ◌*◌, ◌==◌, Bool, if◌then◌else◌, List, [], ◌∷◌, take, drop, take_while, position, Option, Some, None, codes}
+use Rattle.std.specs.List.{list_any, prefix_len}
 use Rattle.std.specs.Char.{is_ascii_digit}
 use Rattle.mj_terms.specs.Text.{trimmed, same_text}
 use Rattle.mj_time.specs.Digits.{numeral_of}
+use Rattle.mj_time.specs.Steps.{◌>>=◌}
 use Rattle.mj_time.specs.declared.delays.Entry.{Entry}
-
-infixl 10 ◌>>=◌
-abbrev pub ◌>>=◌ : {A B : Type 0} → Option A → (A → Option B) → Option B
-value >>= next = option_and_then next value
 
 -- the name is one of these, without regard to ASCII case
 abbrev pub is_one_of : List (List ℕ) → List ℕ → Bool

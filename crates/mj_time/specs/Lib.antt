@@ -6,3 +6,4 @@ pub mod Fields
 pub mod Limits
 pub mod Moment
 pub mod Schedule
+pub mod Steps

@@ -1,14 +1,11 @@
 -- Moments in the form `YYYY-MM-DDTHH:MM:SSZ`.
-use Rattle.std.specs.Prelude.{ℕ, ◌+◌, ◌*◌, ◌==◌, ◌&&◌, Bool, nat_lt, nat_le, if◌then◌else◌, ℤ, pos, unsigned_abs, List, length, slice_index, slice_range, Option, Some, None, option_and_then, Result, Ok, Err}
+use Rattle.std.specs.Prelude.{ℕ, ◌+◌, ◌*◌, ◌==◌, ◌&&◌, Bool, nat_lt, nat_le, if◌then◌else◌, pos, unsigned_abs, List, length, slice_index, slice_range, Option, Some, None, Result, Ok, Err}
 use Rattle.jiff_core.specs.Calendar.{days_in_month, days_from_civil}
 use Rattle.mj_time.specs.Digits.{numeral_of}
+use Rattle.mj_time.specs.Steps.{◌>>=◌}
 use Rattle.mj_time.specs.declared.moments.Fields.{Fields}
 use Rattle.mj_time.specs.declared.moments.MomentFault.{MomentFault}
 use Rattle.mj_time.specs.declared.moments.MomentFault.TheVariants.{Bad, OutOfRange}
-
-infixl 10 ◌>>=◌
-abbrev pub ◌>>=◌ : {A B : Type 0} → Option A → (A → Option B) → Option B
-value >>= next = option_and_then next value
 
 -- twenty bytes, with `-`, `-`, `T`, `:`, `:` and `Z` at their places
 abbrev pub has_separators : List ℕ → Bool
@@ -23,13 +20,13 @@ field text from to = numeral_of (slice_range text from to)
 -- the six numbers of a text of the form, and nothing for a text of another form
 unfoldable pub fields_of : List ℕ → Option Fields
 fields_of text = if has_separators text then (do
-    year ← field text 0 4
-    month ← field text 5 7
-    day ← field text 8 10
-    hour ← field text 11 13
-    minute ← field text 14 16
-    second ← field text 17 19
-    Some (record { year = year; month = month; day = day; hour = hour; minute = minute; second = second }))
+  year ← field text 0 4
+  month ← field text 5 7
+  day ← field text 8 10
+  hour ← field text 11 13
+  minute ← field text 14 16
+  second ← field text 17 19
+  Some (record { year = year; month = month; day = day; hour = hour; minute = minute; second = second }))
     else None
 
 -- the calendar has this day

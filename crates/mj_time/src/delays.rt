@@ -19,7 +19,9 @@ pub(crate) struct Entry {
 fn is_one_of(names: &[&str], name: &[u8]) -> bool
     ensures { result ≡ list_any (λ known. same_text name.now known.now) names.now }
 {
-    names.iter().any(|known| name.eq_ignore_ascii_case(known.as_bytes()))
+    names
+        .iter()
+        .any(|known| name.eq_ignore_ascii_case(known.as_bytes()))
 }
 
 /// How many milliseconds a unit has.
@@ -28,7 +30,10 @@ fn unit_millis(name: &[u8]) -> Option<u64>
     ensures value { result ≡ unit_of name.now }
     ensures small { IfSome result (λ unit. unit ≤ 86_400_000) }
 {
-    if is_one_of(&["", "ms", "msec", "msecs", "millisecond", "milliseconds"], name) {
+    if is_one_of(
+        &["", "ms", "msec", "msecs", "millisecond", "milliseconds"],
+        name,
+    ) {
         Some(1)
     } else if is_one_of(&["s", "sec", "secs", "second", "seconds"], name) {
         Some(1_000)

@@ -6,6 +6,8 @@ mod delays;
 mod digits;
 mod moments;
 mod schedules;
+#[cfg(test)]
+mod tests;
 mod texts;
 
 pub use dates::date_text;

@@ -8,7 +8,6 @@ ghost use Rattle.mj_time.specs.Delays.{entry_of};
 ghost use Rattle.mj_time.specs.Schedule.{Gives, checked, extended, is_comma, schedule_of};
 ghost use Rattle.mj_time.specs.Draft.{completed, left, parts_of};
 
-
 use crate::delays::{Entry, read_entry};
 use crate::texts::place_of;
 use std::alloc::{AllocError, Global};
@@ -62,7 +61,7 @@ pub struct Schedule {
 impl Model for Schedule {
     ghost use Rattle.std.specs.Prelude.{List, ℕ};
     ghost use Rattle.mj_time.specs.declared.schedules.ScheduleFault.TheVariants.{Memory};
-ghost use Rattle.mj_time.specs.Limits.{IsSchedule};
+    ghost use Rattle.mj_time.specs.Limits.{IsSchedule};
 
     ghost Value = { List ℕ };
 

@@ -18,12 +18,12 @@ loop-rest-preserved c =
     let added = c.in_ok-add.ensures in
     record {
       whole =
-        completed_ok c.args.max_retries c.loop-rest.draft.attempts c.add.new.self.attempts c.loop-rest.place c.loop-rest.draft.delays.items c.add.new.self.delays.items c.next_part.result.0.now (parts_of (option_copied c.loop-rest.rest)) (parts_of (option_copied c.next_part.result.1)) c.in_ok-entry.entry
-        (ap (λ rest. parts_of (option_copied rest)) c.in-Some.is ∙ c.next_part.ensures.parts)
-        (sym entry.value)
-        added.attempts
-        added.delays
-        ∙ c.loop-rest.invariant.whole;
+          completed_ok c.args.max_retries c.loop-rest.draft.attempts c.add.new.self.attempts c.loop-rest.place c.loop-rest.draft.delays.items c.add.new.self.delays.items c.next_part.result.0.now (parts_of (option_copied c.loop-rest.rest)) (parts_of (option_copied c.next_part.result.1)) c.in_ok-entry.entry
+          (ap (λ rest. parts_of (option_copied rest)) c.in-Some.is ∙ c.next_part.ensures.parts)
+          (sym entry.value)
+          added.attempts
+          added.delays
+          ∙ c.loop-rest.invariant.whole;
       begun = omega (arith, entry.some, added.attempts);
       room = omega (arith, c.next_part.ensures.shorter, ap (λ rest. left (option_copied rest)) c.in-Some.is);
       small = omega (arith, entry.small, added.attempts);
