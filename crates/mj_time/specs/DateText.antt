@@ -5,7 +5,7 @@ use Rattle.jiff_core.specs.declared.civil.date.Date.{Date}
 use Rattle.jiff_core.specs.Calendar.{days_from_civil, weekday_number}
 use Rattle.jiff_core.specs.Date.{weekday_of}
 
--- a number below 100 in two digits, and one below 10,000 in four
+-- a number below 100 in two digits
 abbrev pub two_digits : ℕ → List ℕ
 two_digits n = (48 + n / 10) ∷ (48 + n % 10) ∷ []
 

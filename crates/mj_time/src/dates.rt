@@ -81,7 +81,7 @@ fn date_at(day: u64) -> Date
 }
 
 /// The numbers of a date and a time.
-#[derive(Clone, Copy, Debug)]
+#[derive(Clone, Copy)]
 struct Parts {
     year: u32,
     month: u8,

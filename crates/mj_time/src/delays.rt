@@ -9,7 +9,7 @@ use crate::digits::numeral;
 use crate::texts::{place_of, trimmed};
 
 /// An entry of a delay text: how many attempts wait this long, in milliseconds.
-#[derive(Clone, Copy, Debug)]
+#[derive(Clone, Copy)]
 pub(crate) struct Entry {
     pub(crate) attempts: u32,
     pub(crate) delay: u64,

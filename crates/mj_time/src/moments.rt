@@ -23,7 +23,7 @@ pub enum MomentFault {
 }
 
 /// The numbers of a moment's text.
-#[derive(Clone, Copy, Debug)]
+#[derive(Clone, Copy)]
 struct Fields {
     year: u32,
     month: u32,

@@ -60,7 +60,6 @@ pub struct Schedule {
 
 impl Model for Schedule {
     ghost use Rattle.std.specs.Prelude.{List, ℕ};
-    ghost use Rattle.mj_time.specs.declared.schedules.ScheduleFault.TheVariants.{Memory};
     ghost use Rattle.mj_time.specs.Limits.{IsSchedule};
 
     ghost Value = { List ℕ };
@@ -127,7 +126,7 @@ impl Schedule {
 }
 
 /// The delays that the entries so far write out. More than 100 attempts are counted and not kept.
-#[derive(Debug, Drop)]
+#[derive(Drop)]
 struct Draft {
     delays: Vec<u64>,
     attempts: u64,
