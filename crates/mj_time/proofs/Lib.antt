@@ -1,0 +1,8 @@
+pub mod Civil
+pub mod DateLines
+pub mod Days
+pub mod Drafts
+pub mod Numerals
+pub mod Parts
+pub mod Short
+pub mod Trims

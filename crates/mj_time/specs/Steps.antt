@@ -1,0 +1,6 @@
+-- Readings one after another, each of which may give nothing.
+use Rattle.std.specs.Prelude.{Option, option_and_then}
+
+infixl 10 ◌>>=◌
+abbrev pub ◌>>=◌ : {A B : Type 0} → Option A → (A → Option B) → Option B
+value >>= next = option_and_then next value

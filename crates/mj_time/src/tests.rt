@@ -1,0 +1,198 @@
+//! Worked lists, moments and dates, with answers from the rules, and short hostile texts.
+use crate::{MomentFault, Schedule, ScheduleFault, date_text, read_moment};
+use std::alloc::{AllocError, Global};
+use std::test::Fail;
+
+/// The first six delays.
+fn six(schedule: &Schedule) -> [Option<u64>; 6] {
+    [
+        schedule.delay_after(1),
+        schedule.delay_after(2),
+        schedule.delay_after(3),
+        schedule.delay_after(4),
+        schedule.delay_after(5),
+        schedule.delay_after(6),
+    ]
+}
+
+fn list(alloc: Global, text: &[u8], max_retries: u32) -> Option<[Option<u64>; 6]> {
+    if text.len() > 100 {
+        return None;
+    }
+    match Schedule::read(alloc, Some(text), max_retries) {
+        Ok(schedule) => Some(six(&schedule)),
+        Err(_) => None,
+    }
+}
+
+fn fault(alloc: Global, text: &[u8], max_retries: u32) -> Option<ScheduleFault> {
+    if text.len() > 100 {
+        return None;
+    }
+    Schedule::read(alloc, Some(text), max_retries).err()
+}
+
+#[test]
+fn lists_of_delays(rt: HostRuntime) {
+    let alloc = rt.alloc();
+    let rows: [(&[u8], u32, [Option<u64>; 6]); 7] = [
+        (
+            b"1 s, 2 s, 3 s",
+            1,
+            [Some(1_000), Some(2_000), Some(3_000), None, None, None],
+        ),
+        (b"5", 1, [Some(5), None, None, None, None, None]),
+        (
+            b"2*5 minutes, 1 hour",
+            5,
+            [
+                Some(300_000),
+                Some(300_000),
+                Some(3_600_000),
+                Some(3_600_000),
+                Some(3_600_000),
+                None,
+            ],
+        ),
+        (
+            b"\t2 *\t1D ,0MSECS ",
+            0,
+            [
+                Some(86_400_000),
+                Some(86_400_000),
+                Some(0),
+                None,
+                None,
+                None,
+            ],
+        ),
+        (
+            b"000000001*7 days",
+            2,
+            [Some(604_800_000), Some(604_800_000), None, None, None, None],
+        ),
+        (
+            b"1h,1Min",
+            3,
+            [
+                Some(3_600_000),
+                Some(60_000),
+                Some(60_000),
+                None,
+                None,
+                None,
+            ],
+        ),
+        (
+            b"999 milliseconds",
+            0,
+            [Some(999), None, None, None, None, None],
+        ),
+    ];
+    for (text, max_retries, expected) in rows {
+        assert_eq!(rt; list(alloc, text, max_retries), Some(expected));
+    }
+}
+
+#[test]
+fn lists_without_a_text(rt: HostRuntime) -> Result<(), Fail> {
+    let five = Schedule::read(rt.alloc(), None, 5)?;
+    let hours = Some(21_600_000);
+    assert_eq!(rt; six(&five), [hours, hours, hours, hours, hours, None]);
+    assert_eq!(rt; five.len(), 5);
+    let one = Schedule::read(rt.alloc(), None, 0)?;
+    assert_eq!(rt; six(&one), [hours, None, None, None, None, None]);
+    let copy = one.copy(rt.alloc())?;
+    assert_eq!(rt; six(&copy), [hours, None, None, None, None, None]);
+    let most = Schedule::read(rt.alloc(), None, 100)?;
+    assert_eq!(rt; most.delay_after(100), hours);
+    assert_eq!(rt; most.delay_after(101), None);
+    assert_eq!(rt;
+        Schedule::read(rt.alloc(), None, 101).err(),
+        Some(ScheduleFault::TooMany)
+    );
+    Ok(())
+}
+
+#[test]
+fn faults_of_delay_texts(rt: HostRuntime) {
+    let alloc = rt.alloc();
+    let bad = |place| ScheduleFault::BadDelay { place };
+    let rows: [(&[u8], ScheduleFault); 20] = [
+        (b"0*5 s", bad(1)),
+        (b"1 s, 8 days", ScheduleFault::TooLong { place: 2 }),
+        (b"101*1 s", ScheduleFault::TooMany),
+        (b"", bad(1)),
+        (b" \t", bad(1)),
+        (b",", bad(1)),
+        (b"1,", bad(2)),
+        (b"1,,2", bad(2)),
+        (b"1*", bad(1)),
+        (b"*1", bad(1)),
+        (b"1 1", bad(1)),
+        (b"1 fortnight", bad(1)),
+        (b"1234567890", bad(1)),
+        (b"1234567890*1", bad(1)),
+        (b"1*2*3", bad(1)),
+        (b"-1", bad(1)),
+        (b"604800001", ScheduleFault::TooLong { place: 1 }),
+        (b"999999999*1, 8 d, x", ScheduleFault::TooLong { place: 2 }),
+        (b"999999999*1, 999999999*1", ScheduleFault::TooMany),
+        (b"1 s\n", bad(1)),
+    ];
+    for (text, expected) in rows {
+        assert_eq!(rt; fault(alloc, text, 1), Some(expected));
+    }
+}
+
+#[test]
+fn moments(rt: HostRuntime) {
+    let rows: [(&[u8], Result<u64, MomentFault>); 20] = [
+        (b"1970-01-01T00:00:00Z", Ok(0)),
+        (b"1970-01-01T00:00:01Z", Ok(1_000)),
+        (b"2000-02-29T23:59:59Z", Ok(951_868_799_000)),
+        (b"2024-02-29T12:34:56Z", Ok(1_709_210_096_000)),
+        (b"2100-12-31T23:59:59Z", Ok(4_133_980_799_000)),
+        (b"2101-01-01T00:00:00Z", Err(MomentFault::OutOfRange)),
+        (b"1969-12-31T23:59:59Z", Err(MomentFault::OutOfRange)),
+        (b"0000-01-01T00:00:00Z", Err(MomentFault::OutOfRange)),
+        (b"2024-02-30T00:00:00Z", Err(MomentFault::Bad)),
+        (b"2100-02-29T00:00:00Z", Err(MomentFault::Bad)),
+        (b"2101-02-29T00:00:00Z", Err(MomentFault::Bad)),
+        (b"2024-00-01T00:00:00Z", Err(MomentFault::Bad)),
+        (b"2024-13-01T00:00:00Z", Err(MomentFault::Bad)),
+        (b"2024-01-01T24:00:00Z", Err(MomentFault::Bad)),
+        (b"2024-01-01T00:00:60Z", Err(MomentFault::Bad)),
+        (b"2024-01-01T00:00:00z", Err(MomentFault::Bad)),
+        (b"2024-01-01t00:00:00Z", Err(MomentFault::Bad)),
+        (b"2024-1-01T00:00:00Z", Err(MomentFault::Bad)),
+        (b"2024-01-01T00:00:00Z ", Err(MomentFault::Bad)),
+        (b"", Err(MomentFault::Bad)),
+    ];
+    for (text, expected) in rows {
+        assert_eq!(rt; read_moment(text), expected);
+    }
+}
+
+fn is_date_text(alloc: Global, moment: u64, expected: &[u8]) -> Result<bool, AllocError> {
+    if moment >= 253_402_300_800_000 {
+        return Ok(false);
+    }
+    let text = date_text(alloc, moment)?;
+    Ok(text.as_slice() == expected)
+}
+
+#[test]
+fn date_texts(rt: HostRuntime) {
+    let rows: [(u64, &[u8]); 6] = [
+        (0, b"Thu, 01 Jan 1970 00:00:00 +0000"),
+        (1_704_067_200_000, b"Mon, 01 Jan 2024 00:00:00 +0000"),
+        (951_782_400_000, b"Tue, 29 Feb 2000 00:00:00 +0000"),
+        (1_709_251_199_000, b"Thu, 29 Feb 2024 23:59:59 +0000"),
+        (4_107_542_399_999, b"Sun, 28 Feb 2100 23:59:59 +0000"),
+        (253_402_300_799_999, b"Fri, 31 Dec 9999 23:59:59 +0000"),
+    ];
+    for (moment, expected) in rows {
+        assert_eq!(rt; is_date_text(rt.alloc(), moment, expected), Ok(true));
+    }
+}
