@@ -14,7 +14,8 @@ pub use fault::HeadFault;
 pub use field::Field;
 pub use head::{Head, write_head};
 pub use line::first_line;
-pub use read::{is_field_name, is_field_value, read_head};
+pub use read::{is_field_name, is_field_value, read_head, trim_end_blanks};
+pub use unfold::trim_blanks;
 
 #[cfg(test)]
 mod tests;

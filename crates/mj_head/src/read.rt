@@ -75,8 +75,8 @@ fn begins_with_blank(bytes: &[u8]) -> bool
     }
 }
 
-/// The text without the blanks at its end.
-pub(crate) fn without_blanks_at_end(text: &[u8]) -> &[u8]
+/// The text without the blanks, spaces and tabs, at its end.
+pub fn trim_end_blanks(text: &[u8]) -> &[u8]
     ensures { result.now ≡ trim_back text.now }
 {
     match text.rfind_not_byteset(b" \t") {
@@ -109,7 +109,7 @@ fn field_parts(line: &[u8], number: u32) -> Result<(&[u8], &[u8]), HeadFault>
     let Some((front, value)) = split_at_colon(line) else {
         return Err(HeadFault::NoColon { line: number });
     };
-    let name = without_blanks_at_end(front);
+    let name = trim_end_blanks(front);
     if !is_field_name(name) {
         return Err(HeadFault::BadName { line: number });
     }

@@ -4,7 +4,7 @@ ghost use Rattle.mj_terms.specs.Text.{trim_front, trimmed};
 ghost use Rattle.mj_head.specs.Fields.{without_crlf};
 ghost use Rattle.mj_head.specs.Reading.{line_to};
 
-use crate::read::without_blanks_at_end;
+use crate::read::trim_end_blanks;
 use bstr::ByteSlice;
 use std::alloc::{AllocError, Global};
 
@@ -16,6 +16,13 @@ fn without_blanks_at_front(text: &[u8]) -> &[u8]
         Some(first) => &text[first..],
         None => &text[text.len()..],
     }
+}
+
+/// The text without the blanks, spaces and tabs, at both its ends.
+pub fn trim_blanks(text: &[u8]) -> &[u8]
+    ensures { result.now ≡ trimmed text.now }
+{
+    trim_end_blanks(without_blanks_at_front(text))
 }
 
 /// The line whose LF stands at this place, without the CRLF at its end, or with the bare LF.
@@ -73,7 +80,7 @@ pub(crate) fn unfold(alloc: Global, body: &[u8]) -> Result<Vec<u8>, AllocError>
         rest = behind;
     }
     push_trimmed(&mut text, rest)?;
-    let len = without_blanks_at_end(&text).len();
+    let len = trim_end_blanks(&text).len();
     text.truncate(len);
     Ok(text)
 }

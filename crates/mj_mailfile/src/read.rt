@@ -1,22 +1,250 @@
-ghost use Rattle.std.specs.Prelude.{length, ◌≤◌, IfOk};
-ghost use Rattle.mj_mailfile.specs.MailFile.{mail_file, Gives};
+ghost use Rattle.std.specs.Prelude.{◌≡◌, ◌≤◌, ◌<◌, ◌+◌, ◌^◌, [], length, codes, ok_or, Ok, Err, IfOk, IfErr, OnOk};
+ghost use Rattle.std.specs.Option.{option_copied};
+ghost use Rattle.mj_terms.specs.Text.{same_text, trim_back};
+ghost use Rattle.mj_head.specs.Head.{lines, head_of};
+ghost use Rattle.mj_mailfile.specs.MailFile.{Gives, GivesBytes, GivesFound, Steps, head_fault, behind_word as behind_word_of, before_bracket as before_bracket_of, bracketed as bracketed_of, mailbox, mail_file, mail_of, mail_with, message_behind, path_of, recipient_line, recipients_of, sender_of, with_recipient};
 
 use crate::MailFault;
+use mj_address::{Address, AddressFault, Recipients};
+use mj_fields::Bytes;
+use mj_head::{HeadFault, first_line, read_head, trim_blanks, trim_end_blanks};
 use mj_mail::NewMail;
 use std::alloc::Global;
 
 /// The most bytes that a mail file may have.
 pub const MAX_FILE: usize = 16_777_216;
 
-/// The mail of a file, or its first fault.
-#[tactic(auto, unfolding(crate::specs::MailFile::mail_file, crate::specs::MailFile::mail_of))]
+/// The most recipients that a mail may have.
+pub const MAX_RECIPIENTS: usize = 500;
+
+/// The mail of a file: its envelope in the words of SMTP (RFC 5321, 4.1.1), and its message.
+///
+/// Lines end as in heads. The first is `MAIL FROM:<address>`, or `MAIL FROM:<>` for the null sender. One or more lines
+/// `RCPT TO:<address>` follow, and then the line `DATA`, behind which every byte is the message. These words are read
+/// without regard to case, and blanks may stand before `<` and at the end of a line. The fault is the first of these:
+/// `TooLarge` for more than 16,777,216 bytes; `NoMailFrom` and `BadSender` at the first line; at each recipient's line
+/// `BadRecipient` with its number in the file, and `TooManyRecipients` at the 501st different recipient; `NoRecipient`
+/// and `NoData` at the line behind; and the fault of the message's head, with its number in the message.
+#[tactic(auto, unfolding(crate::specs::MailFile::mail_file))]
 pub fn read_mail_file(alloc: Global, bytes: &[u8]) -> Result<NewMail, MailFault>
     ensures exact { Gives result (mail_file bytes.now) }
     ensures body { IfOk result (λ mail. length mail.body ≤ MAX_FILE) }
 {
-    let _ = alloc;
     if bytes.len() > MAX_FILE {
         return Err(MailFault::TooLarge);
     }
-    Err(MailFault::NoMailFrom)
+    read_mail(alloc, bytes)
+}
+
+#[tactic(auto, unfolding(crate::specs::MailFile::mail_of))]
+fn read_mail(alloc: Global, bytes: &[u8]) -> Result<NewMail, MailFault>
+    requires { length bytes.now ≤ MAX_FILE }
+    ensures exact { Gives result (mail_of bytes.now) }
+    ensures body { IfOk result (λ mail. length mail.body ≤ length bytes.now) }
+{
+    if bytes.is_empty() {
+        return Err(MailFault::NoMailFrom);
+    }
+    let (line, rest) = first_line(bytes);
+    let sender = read_sender(alloc, line)?;
+    let (recipients, rest) = read_recipients(alloc, rest)?;
+    let message = read_data(&recipients, rest)?;
+    read_message(alloc, sender, recipients, message)
+}
+
+/// The sender of the first line, which is without its end.
+fn read_sender(alloc: Global, line: &[u8]) -> Result<Option<Address>, MailFault>
+    ensures { Gives result (sender_of line.now) }
+{
+    match behind_word(line, b"MAIL FROM:") {
+        None => Err(MailFault::NoMailFrom),
+        Some(text) => match bracketed(text) {
+            None => Err(MailFault::BadSender),
+            Some(path) => read_path(alloc, path),
+        },
+    }
+}
+
+fn read_path(alloc: Global, path: &[u8]) -> Result<Option<Address>, MailFault>
+    ensures { Gives result (ok_or (path_of path.now) MailFault.BadSender) }
+{
+    if path.is_empty() {
+        return Ok(None);
+    }
+    match Address::read(alloc, path) {
+        Ok(address) => Ok(Some(address)),
+        Err(AddressFault::Memory) => Err(MailFault::Memory),
+        Err(_) => Err(MailFault::BadSender),
+    }
+}
+
+/// The recipients of the lines at the front of the bytes, the first of which is the second of the file, and the bytes
+/// behind them.
+fn read_recipients(alloc: Global, bytes: &[u8]) -> Result<(Recipients, &[u8]), MailFault>
+    requires { length bytes.now ≤ MAX_FILE }
+    ensures exact { GivesFound result (recipients_of 2 [] (lines bytes.now)) }
+    ensures rest { IfOk result (λ found. length found.1.now ≤ length bytes.now) }
+{
+    let mut found = Recipients::new(alloc);
+    let mut rest = bytes;
+    let mut number = 2;
+    while !rest.is_empty() {
+        let (line, after) = first_line(rest);
+        if !take_recipient(alloc, &mut found, line, number)? {
+            break;
+        }
+        rest = after;
+        number += 1;
+    }
+    Ok((found, rest))
+}
+
+/// Takes the recipient of a line, which is without its end; `false` where the line begins otherwise.
+fn take_recipient(
+    alloc: Global,
+    found: &mut Recipients,
+    line: &[u8],
+    number: u32,
+) -> Result<bool, MailFault>
+    ensures { Steps result found.old found.new (recipient_line number found.old line.now) }
+{
+    match behind_word(line, b"RCPT TO:") {
+        None => Ok(false),
+        Some(text) => {
+            add_recipient(alloc, found, text, number)?;
+            Ok(true)
+        }
+    }
+}
+
+fn add_recipient(
+    alloc: Global,
+    found: &mut Recipients,
+    text: &[u8],
+    number: u32,
+) -> Result<(), MailFault>
+    ensures ok { OnOk result (with_recipient number found.old (mailbox text.now) ≡ Ok found.new) }
+    ensures err { IfErr result (λ fault. Gives (Err fault) (with_recipient number found.old (mailbox text.now))) }
+{
+    let address = read_mailbox(alloc, text, number)?;
+    if found.contains(&address) {
+        return Ok(());
+    }
+    if found.len() == MAX_RECIPIENTS {
+        return Err(MailFault::TooManyRecipients);
+    }
+    match found.add(address) {
+        Ok(_) => Ok(()),
+        Err(_) => Err(MailFault::Memory),
+    }
+}
+
+fn read_mailbox(alloc: Global, text: &[u8], number: u32) -> Result<Address, MailFault>
+    ensures { Gives result (ok_or (mailbox text.now) (MailFault.BadRecipient number)) }
+{
+    let Some(spelling) = bracketed(text) else {
+        return Err(MailFault::BadRecipient { line: number });
+    };
+    match Address::read(alloc, spelling) {
+        Ok(address) => Ok(address),
+        Err(AddressFault::Memory) => Err(MailFault::Memory),
+        Err(_) => Err(MailFault::BadRecipient { line: number }),
+    }
+}
+
+/// The message behind the `DATA` line at the front of the bytes.
+fn read_data<'a>(found: &Recipients, bytes: &'a [u8]) -> Result<&'a [u8], MailFault>
+    ensures exact { GivesBytes result (message_behind found.now (lines bytes.now)) }
+    ensures rest { IfOk result (λ message. length message.now ≤ length bytes.now) }
+{
+    if found.is_empty() {
+        return Err(MailFault::NoRecipient);
+    }
+    if bytes.is_empty() {
+        return Err(MailFault::NoData);
+    }
+    let (line, message) = first_line(bytes);
+    if is_data(line) {
+        Ok(message)
+    } else {
+        Err(MailFault::NoData)
+    }
+}
+
+/// The mail of an envelope and a message.
+fn read_message(
+    alloc: Global,
+    sender: Option<Address>,
+    recipients: Recipients,
+    message: &[u8],
+) -> Result<NewMail, MailFault>
+    ensures exact { Gives result (mail_with sender recipients message.now (head_of message.now)) }
+    ensures body { IfOk result (λ mail. length mail.body ≤ length message.now) }
+{
+    let (head, place) = match read_head(alloc, message) {
+        Ok(read) => read,
+        Err(fault) => return Err(fault_of_head(fault)),
+    };
+    match Bytes::from_slice(alloc, &message[place..]) {
+        Ok(body) => Ok(NewMail {
+            sender,
+            recipients,
+            head,
+            body,
+        }),
+        Err(_) => Err(MailFault::Memory),
+    }
+}
+
+fn fault_of_head(fault: HeadFault) -> MailFault
+    ensures { result ≡ head_fault fault }
+{
+    match fault {
+        HeadFault::ContinuationFirst { line }
+        | HeadFault::NoColon { line }
+        | HeadFault::BadName { line } => MailFault::BadHead { line },
+        HeadFault::TooLong { .. } => MailFault::HeadTooLong,
+        HeadFault::Memory => MailFault::Memory,
+    }
+}
+
+/// What stands behind a word at the front of a line, without regard to case.
+fn behind_word<'a>(line: &'a [u8], word: &[u8]) -> Option<&'a [u8]>
+    ensures { option_copied result ≡ behind_word_of word.now line.now }
+{
+    let end = word.len().min(line.len());
+    if is_same(&line[..end], word) {
+        Some(&line[end..])
+    } else {
+        None
+    }
+}
+
+fn is_same(a: &[u8], b: &[u8]) -> bool
+    ensures { result ≡ same_text a.now b.now }
+{
+    a.eq_ignore_ascii_case(b)
+}
+
+fn is_data(line: &[u8]) -> bool
+    ensures { result ≡ same_text (trim_back line.now) (codes "DATA") }
+{
+    is_same(trim_end_blanks(line), b"DATA")
+}
+
+/// What stands in angle brackets, with nothing but blanks round them.
+fn bracketed(text: &[u8]) -> Option<&[u8]>
+    ensures { option_copied result ≡ bracketed_of text.now }
+{
+    before_bracket(trim_blanks(text).strip_prefix(b"<")?)
+}
+
+fn before_bracket(text: &[u8]) -> Option<&[u8]>
+    ensures { option_copied result ≡ before_bracket_of text.now }
+{
+    if text.ends_with(b">") {
+        Some(&text[..text.len() - 1])
+    } else {
+        None
+    }
 }

@@ -3,4 +3,4 @@ use Rattle.mj_head.proofs.read.field_parts.Goals as goal
 
 pub returns-clause-short : goal.returns-clause-short
 returns-clause-short c =
-    rw (c.without_blanks_at_end-name.ensures, ← c.in-Some.ensures.1, ← c.in-Some.ensures.2) (name_value-le c.args.line.now)
+    rw (c.trim_end_blanks-name.ensures, ← c.in-Some.ensures.1, ← c.in-Some.ensures.2) (name_value-le c.args.line.now)

@@ -11,6 +11,6 @@ returns c =
     let new = c.push_trimmed-2.new.text.items in
     let last : without_crlf rest ≡ rest = search rules in
     let so_far : trim_front (text ++ rest) ≡ trim_front (without_crlf c.args.body.now) = ap (λ (t : List ℕ). trim_front (text ++ t)) (sym last) ∙ c.loop-line.invariant.0 in
-    rw (c.truncate.ensures.items, c.without_blanks_at_end-len.ensures, c.deref.ensures.value) (
+    rw (c.truncate.ensures.items, c.trim_end_blanks-len.ensures, c.deref.ensures.value) (
     take_trim_back new ∙ ap trim_back (all_unfolded c.args.body.now text rest new so_far c.in_ok-push_trimmed-2.ensures.trimmed c.in_ok-push_trimmed-2.ensures.same)
     )
