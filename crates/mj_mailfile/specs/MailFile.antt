@@ -1,8 +1,9 @@
 -- What a mail file says: an envelope in the words of SMTP (RFC 5321, 4.1.1), and a message.
-use Rattle.std.specs.Prelude.{◌≡◌, ℕ, ◌+◌, ◌-◌, ◌==◌, nat_eq, if◌then◌else◌, List, [], ◌∷◌, ◌++◌, length, take, drop, codes, Option, Some, None, option_map, IfSome, Result, Ok, Err, ok_or, Bool, true, false, Bor, refl}
+use Rattle.std.specs.Prelude.{◌≡◌, ℕ, ◌+◌, ◌-◌, ◌==◌, nat_eq, if◌then◌else◌, List, [], ◌∷◌, ◌++◌, length, take, drop, codes, Option, Some, None, option_map, IfSome, Result, Ok, Err, ok_or, Bool, true, false, refl}
 use Rattle.std.specs.List.{ends_with, concat}
 use Rattle.std.specs.Option.{option_and_then, option_map_or}
 use Rattle.std.specs.Result.{result_ok}
+use Rattle.std.proofs.Common.{Bor}
 use Rattle.mj_terms.specs.Limits.{within, within-take}
 use Rattle.mj_terms.specs.Text.{behind, same_text, trim_back, trimmed}
 use Rattle.mj_address.specs.Reading.{address_of}
@@ -91,16 +92,13 @@ with_recipient number found None = Err (BadRecipient number)
 with_recipient number found (Some address) =
     if has_same found address then Ok found else (if length found == 500 then Err TooManyRecipients else Ok (found ++ address ∷ []))
 
--- what a line that begins with `RCPT TO:` makes of the recipients before it
-abbrev pub recipient_line : ℕ → List Mailbox → List ℕ → Option (Result (List Mailbox) MailFault)
-recipient_line number found line = option_map (λ text. with_recipient number found (mailbox text)) (behind_word (codes "RCPT TO:") line)
-
 -- the recipients of the `RCPT TO:` lines at the front, beside those before them, and the lines behind; the first line
 -- has this number
 abbrev pub recipients_of : ℕ → List Mailbox → List (List ℕ) → Result (List Mailbox × List (List ℕ)) MailFault
 recipients_of number found [] = Ok (found, [])
 recipients_of number found (line ∷ rest) =
-    option_map_or (λ more. more >>= λ all. recipients_of (number + 1) all rest) (recipient_line number found (content line)) (Ok (found, line ∷ rest))
+    option_map_or (λ text. with_recipient number found (mailbox text) >>= λ all. recipients_of (number + 1) all rest)
+    (behind_word (codes "RCPT TO:") (content line)) (Ok (found, line ∷ rest))
 
 -- the message behind the `DATA` line, which follows the recipients
 abbrev pub message_behind : List Mailbox → List (List ℕ) → Result (List ℕ) MailFault
@@ -145,11 +143,14 @@ mail_file-take room bytes e = within-take 16_777_216 room (Err TooLarge) mail_of
 
 -- ---- Steps of the reader
 
--- what a line made of the recipients: false where it begins otherwise, and they stay
-abbrev pub Steps : Result Bool MailFault → List Mailbox → List Mailbox → Option (Result (List Mailbox) MailFault) → Type 0
-Steps (Ok true) old new step = step ≡ Some (Ok new)
-Steps (Ok false) old new step = (step ≡ None) × (new ≡ old)
-Steps (Err fault) old new step = IfSome step (λ said. Gives (Err fault) said)
+-- no recipient's line stands at the front: the recipients before are all
+abbrev pub IsEnd : List ℕ → Type 0
+IsEnd bytes = (number : ℕ) (found : List Mailbox) → recipients_of number found (lines bytes) ≡ Ok (found, lines bytes)
+
+-- a recipient's line stands at the front, with this text behind `RCPT TO:`, and these bytes behind the line
+abbrev pub IsRecipientLine : List ℕ → List ℕ → List ℕ → Type 0
+IsRecipientLine bytes text rest = (number : ℕ) (found : List Mailbox)
+    → recipients_of number found (lines bytes) ≡ with_recipient number found (mailbox text) >>= λ all. recipients_of (number + 1) all (lines rest)
 
 -- the recipients that were read, and the bytes behind their lines
 abbrev pub GivesFound : Result (List Mailbox × Bor (List ℕ)) MailFault → Result (List Mailbox × List (List ℕ)) MailFault → Type 0

@@ -1,8 +1,8 @@
-ghost use Rattle.std.specs.Prelude.{◌≡◌, ◌≤◌, ◌<◌, ◌+◌, ◌^◌, [], length, codes, ok_or, Ok, Err, IfOk, IfErr, OnOk};
+ghost use Rattle.std.specs.Prelude.{◌≡◌, ◌≤◌, ◌<◌, ◌+◌, ◌^◌, [], length, codes, ok_or, Ok, Err, IfOk, IfErr, IfSome, MatchOption, OnOk};
 ghost use Rattle.std.specs.Option.{option_copied};
 ghost use Rattle.mj_terms.specs.Text.{same_text, trim_back};
 ghost use Rattle.mj_head.specs.Head.{lines, head_of};
-ghost use Rattle.mj_mailfile.specs.MailFile.{Gives, GivesBytes, GivesFound, Steps, head_fault, behind_word as behind_word_of, before_bracket as before_bracket_of, bracketed as bracketed_of, mailbox, mail_file, mail_of, mail_with, message_behind, path_of, recipient_line, recipients_of, sender_of, with_recipient};
+ghost use Rattle.mj_mailfile.specs.MailFile.{Gives, GivesBytes, GivesFound, IsEnd, IsRecipientLine, head_fault, behind_word as behind_word_of, before_bracket as before_bracket_of, bracketed as bracketed_of, mailbox, mail_file, mail_of, mail_with, message_behind, path_of, recipients_of, sender_of, with_recipient};
 
 use crate::MailFault;
 use mj_address::{Address, AddressFault, Recipients};
@@ -88,32 +88,27 @@ fn read_recipients(alloc: Global, bytes: &[u8]) -> Result<(Recipients, &[u8]), M
     let mut found = Recipients::new(alloc);
     let mut rest = bytes;
     let mut number = 2;
-    while !rest.is_empty() {
-        let (line, after) = first_line(rest);
-        if !take_recipient(alloc, &mut found, line, number)? {
-            break;
-        }
+    while let Some((text, after)) = recipient_line(rest) {
+        add_recipient(alloc, &mut found, text, number)?;
         rest = after;
         number += 1;
     }
     Ok((found, rest))
 }
 
-/// Takes the recipient of a line, which is without its end; `false` where the line begins otherwise.
-fn take_recipient(
-    alloc: Global,
-    found: &mut Recipients,
-    line: &[u8],
-    number: u32,
-) -> Result<bool, MailFault>
-    ensures { Steps result found.old found.new (recipient_line number found.old line.now) }
+/// What stands behind `RCPT TO:` in the line at the front of the bytes, and the bytes behind it; `None` where no such
+/// line stands there.
+fn recipient_line(bytes: &[u8]) -> Option<(&[u8], &[u8])>
+    ensures line { MatchOption result (IsEnd bytes.now) (λ parts. IsRecipientLine bytes.now parts.0.now parts.1.now) }
+    ensures shorter { IfSome result (λ parts. length parts.1.now < length bytes.now) }
 {
+    if bytes.is_empty() {
+        return None;
+    }
+    let (line, rest) = first_line(bytes);
     match behind_word(line, b"RCPT TO:") {
-        None => Ok(false),
-        Some(text) => {
-            add_recipient(alloc, found, text, number)?;
-            Ok(true)
-        }
+        Some(text) => Some((text, rest)),
+        None => None,
     }
 }
 
