@@ -2,6 +2,7 @@ use crate::james_one;
 use mj_fields::{Bytes, Items, Memory};
 use mj_io::{MemoryFile, MemoryFiles, MemorySink, are_files};
 use std::alloc::Global;
+use std::process::Abort;
 use std::test::Fail;
 
 const CONFIGURATION: &str = "conf/mailetcontainer.toml";
@@ -289,8 +290,7 @@ fn judges_each_configuration(rt: HostRuntime) -> Result<(), Fail> {
 
 const USAGE: &[u8] = b"usage: james COMMAND [--workers N] [--number N] [--count N]\n";
 
-fn refuses(rt: &HostRuntime, words: &[&str]) -> Result<(), Fail> {
-    let alloc = rt.alloc();
+fn refuses(rt: &impl Abort, alloc: Global, words: &[&str]) -> Result<(), Fail> {
     let (status, text) = outcome(alloc, words, plain(alloc)?, &[], &[])?;
     assert_eq!(rt; status, 2);
     assert_eq!(rt; text.as_slice(), USAGE);
@@ -301,10 +301,10 @@ fn refuses(rt: &HostRuntime, words: &[&str]) -> Result<(), Fail> {
 fn tells_what_failed(rt: HostRuntime) -> Result<(), Fail> {
     let alloc = rt.alloc();
     for word in ["", "fly", "Run", "--help"] {
-        refuses(&rt, &[word])?;
+        refuses(&rt, alloc, &[word])?;
     }
-    refuses(&rt, &[])?;
-    refuses(&rt, &["run", "run"])?;
+    refuses(&rt, alloc, &[])?;
+    refuses(&rt, alloc, &["run", "run"])?;
     // The configuration is the first call on the files, the folder the second, and its one mail the third.
     for call in 1..4 {
         let mut files = plain(alloc)?;

@@ -1,6 +1,5 @@
 -- What an object in memory holds: its contents, the numbers of the calls that are to fail, and two counts.
-use Rattle.std.specs.Prelude.{ℕ, List, [], ◌∷◌, Bool, true, ◌&&◌, ◌==◌, map, is_none, min, ◌+◌, ◌-◌, ◌^◌}
-use Rattle.std.specs.List.{list_any}
+use Rattle.std.specs.Prelude.{ℕ, List, [], ◌∷◌, Bool, true, ◌&&◌, map, is_none, min, ◌+◌, ◌-◌, ◌^◌}
 use Rattle.std.specs.Str.{is_utf8}
 use Rattle.mj_io.specs.declared.memory_files.MemoryFile.{MemoryFile}
 use Rattle.mj_io.specs.Folder.{file_at}

@@ -64,10 +64,10 @@ fn file_names<E: rt::Files + AllocGlobal + Clone + Drop>(
     let mut names = Vec::new(alloc);
     for entry in fs::read_dir(rt, folder)? {
         let entry = entry?;
-        if names.len() >= MOST_NAMES {
-            return Err(io::Error::from(ErrorKind::Other));
-        }
         if is_file(rt, entry.path().as_str())? {
+            if names.len() >= MOST_NAMES {
+                return Err(io::Error::from(ErrorKind::Other));
+            }
             names.push(String::from_str(alloc, entry.file_name())?)?;
         }
     }

@@ -1,5 +1,5 @@
 -- The lines of a text, put one after the other, are the text.
-use Rattle.std.proofs.Common.{◌≡◌, ℕ, Bool, true, false, cond, List, [], ◌∷◌, ◌++◌, codes, Ok, refl, ap, ◌∙◌}
+use Rattle.std.proofs.Common.{◌≡◌, ℕ, Bool, true, false, cond, List, [], ◌∷◌, codes, Ok, refl, ap, ◌∙◌}
 use Rattle.std.specs.List.{concat}
 use Rattle.mj_terms.specs.Text.{same_text, trim_back}
 use Rattle.mj_head.specs.Head.{lines, lengthened, content}

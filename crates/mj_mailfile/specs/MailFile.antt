@@ -1,5 +1,5 @@
 -- What a mail file says: an envelope in the words of SMTP (RFC 5321, 4.1.1), and a message.
-use Rattle.std.specs.Prelude.{◌≡◌, ℕ, ◌+◌, ◌-◌, ◌==◌, nat_eq, if◌then◌else◌, List, [], ◌∷◌, ◌++◌, length, take, drop, codes, Option, Some, None, option_map, IfSome, Result, Ok, Err, ok_or, Bool, true, false, refl}
+use Rattle.std.specs.Prelude.{◌≡◌, ℕ, ◌+◌, ◌-◌, ◌==◌, nat_eq, if◌then◌else◌, List, [], ◌∷◌, ◌++◌, length, take, drop, codes, Option, Some, None, option_map, Result, Ok, Err, ok_or, refl}
 use Rattle.std.specs.List.{ends_with, concat}
 use Rattle.std.specs.Option.{option_and_then, option_map_or}
 use Rattle.std.specs.Result.{result_ok}
