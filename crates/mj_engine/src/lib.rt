@@ -14,3 +14,6 @@ pub use config::{PlanFault, PlanKind, read_plan};
 pub use plan::Plan;
 pub use refusal::Refusal;
 pub use top::james_one;
+
+#[cfg(test)]
+mod tests;

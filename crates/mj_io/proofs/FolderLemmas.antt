@@ -54,10 +54,10 @@ plain_is name found false e = cc
 pub name_in_is : (folder path name : List ℕ) → name_in folder path ≡ Some name → path ≡ folder ++ 47 ∷ name
 name_in_is folder path name e =
     option_and_then_some plain_name (option_and_then (behind (47 ∷ [])) (behind folder path)) name e (λ found inner plain.
-        option_and_then_some (behind (47 ∷ [])) (behind folder path) found inner (λ rest outer slash.
-            let same : found ≡ name = plain_is found name _ plain in
-            let tail : rest ≡ 47 ∷ found = behind_is (47 ∷ []) rest found slash in
-            behind_is folder path rest outer ∙ ap (λ x. folder ++ x) (tail ∙ ap (λ x. 47 ∷ x) same)))
+    option_and_then_some (behind (47 ∷ [])) (behind folder path) found inner (λ rest outer slash.
+    let same : found ≡ name = plain_is found name _ plain in
+    let tail : rest ≡ 47 ∷ found = behind_is (47 ∷ []) rest found slash in
+    behind_is folder path rest outer ∙ ap (λ x. folder ++ x) (tail ∙ ap (λ x. 47 ∷ x) same)))
 
 utf8_with : (names : List (List ℕ)) (name : Option (List ℕ)) → list_all is_utf8 (in_byte_order names) ≡ true
     → IfSome name (λ n. is_utf8 n ≡ true) → list_all is_utf8 (in_byte_order (cons_option name names)) ≡ true

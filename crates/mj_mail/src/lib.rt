@@ -9,3 +9,6 @@ mod name;
 pub use fact::{Fact, Outcome};
 pub use mail::{Body, Mail, NewMail, Stage};
 pub use name::{Name, name_text, put_number};
+
+#[cfg(test)]
+mod tests;

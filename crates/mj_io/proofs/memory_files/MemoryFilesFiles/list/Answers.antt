@@ -5,4 +5,4 @@ use Rattle.mj_io.proofs.memory_files.MemoryFilesFiles.list.Goals as goal
 pub returns-clause-utf8 : goal.returns-clause-utf8
 returns-clause-utf8 c =
     rw (c.from_vec.ensures, c.in_ok-names.ensures)
-        (names_utf8 c.as_bytes.result.now (told_files c.as_slice.result.now) (rw c.as_slice.ensures c.self.invariant))
+    (names_utf8 c.as_bytes.result.now (told_files c.as_slice.result.now) (rw c.as_slice.ensures c.self.invariant))
