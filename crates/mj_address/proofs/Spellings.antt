@@ -9,7 +9,7 @@ use Rattle.mj_address.specs.declared.fault.AddressFault.TheVariants.{NoAt}
 use Rattle.mj_address.proofs.Cuts.{whole_by_parts, before_between, after_between}
 
 -- what each passes, each passes of a weaker test
-all_weaker : (strict weak : List ℕ → Bool) → ((x : List ℕ) → strict x ≡ true → weak x ≡ true) → (xs : List (List ℕ)) → list_all strict xs ≡ true → list_all weak xs ≡ true
+pub all_weaker : (strict weak : List ℕ → Bool) → ((x : List ℕ) → strict x ≡ true → weak x ≡ true) → (xs : List (List ℕ)) → list_all strict xs ≡ true → list_all weak xs ≡ true
 all_weaker strict weak h [] all = refl
 all_weaker strict weak h (x ∷ xs) all = grind (arith, h x, all_weaker strict weak h xs)
 
@@ -18,7 +18,7 @@ onto_parts test b [] all = grind arith
 onto_parts test b (part ∷ parts) all = grind arith
 
 -- each byte of the text is of a piece, or was cut at
-bytes_of_pieces : (test cuts : ℕ → Bool) (text : List ℕ) → list_all (list_all test) (slice_split cuts text) ≡ true → list_all (λ b. test b || cuts b) text ≡ true
+pub bytes_of_pieces : (test cuts : ℕ → Bool) (text : List ℕ) → list_all (list_all test) (slice_split cuts text) ≡ true → list_all (λ b. test b || cuts b) text ≡ true
 bytes_of_pieces test cuts [] all = refl
 bytes_of_pieces test cuts (b ∷ text) all = by (cuts b) refl (bytes_of_pieces test cuts text)
   where
@@ -30,7 +30,7 @@ bytes_of_pieces test cuts (b ∷ text) all = by (cuts b) refl (bytes_of_pieces t
         let parts = onto_parts test b (slice_split cuts text) (rw e at all) in
         grind (arith, later parts.1)
 
-label_bytes : (piece : List ℕ) → is_label piece ≡ true → list_all is_label_byte piece ≡ true
+pub label_bytes : (piece : List ℕ) → is_label piece ≡ true → list_all is_label_byte piece ≡ true
 label_bytes piece h = grind arith
 
 byte_apart : (b : ℕ) → is_label_byte b || is_dot b ≡ true → is_at b ≡ false

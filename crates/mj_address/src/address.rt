@@ -104,6 +104,7 @@ impl Address {
         ensures err { OnErr result (out.new.items ≡ out.old.items) }
         // What is written is read as this address again.
         ensures again { address_of (spelled self.now) ≡ Ok self.now }
+        ensures form { IsAddress self.now }
     {
         let (local, domain) = (self.local(), self.domain().as_slice());
         out.reserve(self.written_len())?;

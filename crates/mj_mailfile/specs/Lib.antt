@@ -1,1 +1,2 @@
 pub mod MailFile
+pub mod Written

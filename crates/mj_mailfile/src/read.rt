@@ -28,6 +28,8 @@ pub const MAX_RECIPIENTS: usize = 500;
 #[tactic(auto, unfolding(crate::specs::MailFile::mail_file))]
 pub fn read_mail_file(alloc: Global, bytes: &[u8]) -> Result<NewMail, MailFault>
     ensures exact { Gives result (mail_file bytes.now) }
+    ensures some { IfOk result (λ mail. 1 ≤ length mail.recipients) }
+    ensures few { IfOk result (λ mail. length mail.recipients ≤ MAX_RECIPIENTS) }
     ensures body { IfOk result (λ mail. length mail.body ≤ MAX_FILE) }
 {
     if bytes.len() > MAX_FILE {
@@ -40,6 +42,8 @@ pub fn read_mail_file(alloc: Global, bytes: &[u8]) -> Result<NewMail, MailFault>
 fn read_mail(alloc: Global, bytes: &[u8]) -> Result<NewMail, MailFault>
     requires { length bytes.now ≤ MAX_FILE }
     ensures exact { Gives result (mail_of bytes.now) }
+    ensures some { IfOk result (λ mail. 1 ≤ length mail.recipients) }
+    ensures few { IfOk result (λ mail. length mail.recipients ≤ MAX_RECIPIENTS) }
     ensures body { IfOk result (λ mail. length mail.body ≤ length bytes.now) }
 {
     if bytes.is_empty() {
@@ -83,6 +87,7 @@ fn read_path(alloc: Global, path: &[u8]) -> Result<Option<Address>, MailFault>
 fn read_recipients(alloc: Global, bytes: &[u8]) -> Result<(Recipients, &[u8]), MailFault>
     requires { length bytes.now ≤ MAX_FILE }
     ensures exact { GivesFound result (recipients_of 2 [] (lines bytes.now)) }
+    ensures few { IfOk result (λ found. length found.0 ≤ MAX_RECIPIENTS) }
     ensures rest { IfOk result (λ found. length found.1.now ≤ length bytes.now) }
 {
     let mut found = Recipients::new(alloc);
@@ -118,6 +123,8 @@ fn add_recipient(
     text: &[u8],
     number: u32,
 ) -> Result<(), MailFault>
+    requires few { length found.old ≤ MAX_RECIPIENTS }
+    ensures few { OnOk result (length found.new ≤ MAX_RECIPIENTS) }
     ensures ok { OnOk result (with_recipient number found.old (mailbox text.now) ≡ Ok found.new) }
     ensures err { IfErr result (λ fault. Gives (Err fault) (with_recipient number found.old (mailbox text.now))) }
 {
@@ -150,6 +157,7 @@ fn read_mailbox(alloc: Global, text: &[u8], number: u32) -> Result<Address, Mail
 /// The message behind the `DATA` line at the front of the bytes.
 fn read_data<'a>(found: &Recipients, bytes: &'a [u8]) -> Result<&'a [u8], MailFault>
     ensures exact { GivesBytes result (message_behind found.now (lines bytes.now)) }
+    ensures some { IfOk result (λ _. 1 ≤ length found.now) }
     ensures rest { IfOk result (λ message. length message.now ≤ length bytes.now) }
 {
     if found.is_empty() {
@@ -174,6 +182,7 @@ fn read_message(
     message: &[u8],
 ) -> Result<NewMail, MailFault>
     ensures exact { Gives result (mail_with sender recipients message.now (head_of message.now)) }
+    ensures recipients { IfOk result (λ mail. mail.recipients ≡ recipients) }
     ensures body { IfOk result (λ mail. length mail.body ≤ length message.now) }
 {
     let (head, place) = match read_head(alloc, message) {
