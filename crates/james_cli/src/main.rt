@@ -2,6 +2,9 @@
 //! call, and ends with its status.
 #![tactic(auto)]
 
+ghost use Rattle.std.specs.Prelude.{◌≡◌, true};
+ghost use Rattle.mj_engine.specs.Top.{is_status};
+
 use mj_engine::james_one;
 use mj_fields::Memory;
 use mj_io::{FolderFiles, OutSink};
@@ -29,11 +32,18 @@ fn words_of<R: Env + AllocGlobal>(rt: &R) -> Result<Vec<String>, Memory> {
     }
 }
 
-fn main(rt: HostRuntime) -> ExitCode {
+/// Does what the words ask in the working folder, and answers the status with which the program ends.
+fn james(rt: HostRuntime) -> u8
+    ensures status { is_status result ≡ true }
+{
     let Ok(words) = words_of(&rt) else {
-        return ExitCode::from(MEMORY);
+        return MEMORY;
     };
     let mut files = FolderFiles::make(rt);
     let mut out = OutSink::make(rt);
-    ExitCode::from(james_one(rt.alloc(), &words, &mut files, &mut out))
+    james_one(rt.alloc(), &words, &mut files, &mut out)
+}
+
+fn main(rt: HostRuntime) -> ExitCode {
+    ExitCode::from(james(rt))
 }
