@@ -7,7 +7,7 @@ use Rattle.std.proofs.lemmas.List.{length-append, take-append-drop, drop_more, s
 use Rattle.std.proofs.lemmas.List.Sums.{list_all-from_AllPass, fails_before_first, passes_at_first}
 use Rattle.mj_head.specs.Head.{RawField, written, is_field, is_head, is_field_name, is_raw_body, is_folded, begins_blank}
 use Rattle.mj_head.specs.Fields.{is_named, is_field_value, replaced_first}
-use Rattle.mj_head.specs.Reading.{with_body}
+use Rattle.mj_head.specs.Reading.{with_body, IsFirstNamed}
 use Rattle.mj_head.proofs.Whole.{length-written_push}
 
 pub head_fields : (fs : List RawField) → is_head fs ≡ true → list_all is_field fs ≡ true
@@ -67,6 +67,14 @@ filter_formed p (f ∷ fs) h =
 pub is_head_filter : (p : RawField → Bool) (fs : List RawField) → is_head fs ≡ true → is_head (filter p fs) ≡ true
 is_head_filter p fs h = is_head_from (filter p fs) (filter_formed p fs (head_fields fs h)) (omega (arith, filter-short p fs, head_short fs h))
 
+-- each field has three bytes at least
+length-le-written : (fs : List RawField) → length fs ≤ length (written fs)
+length-le-written [] = omega arith
+length-le-written (f ∷ fs) = omega (arith, length-written-cons f fs, length-le-written fs)
+
+pub head_few : (fs : List RawField) → is_head fs ≡ true → length fs ≤ 65536
+head_few fs h = omega (arith, head_short fs h, length-le-written fs)
+
 -- ---- another raw body
 
 pub length-written-append : (fs gs : List RawField) → length (written (fs ++ gs)) ≡ length (written fs) + length (written gs)
@@ -108,7 +116,7 @@ is_head_with_body fs k value lt h v short =
     ∙ list_all-append is_field (take k fs) ((f.0, 32 ∷ value) ∷ drop (k + 1) fs) all.0 (and_from (is_field (f.0, 32 ∷ value)) (list_all is_field (drop (k + 1) fs)) (value_formed f.0 value named v) here.1))
     short
 
-replaced_first_none : (name body : List ℕ) (fs : List RawField) → list_all (λ f. not (is_named name f)) fs ≡ true → replaced_first name body fs ≡ fs ++ (name, body) ∷ []
+pub replaced_first_none : (name body : List ℕ) (fs : List RawField) → list_all (λ f. not (is_named name f)) fs ≡ true → replaced_first name body fs ≡ fs ++ (name, body) ∷ []
 replaced_first_none name body [] h = refl
 replaced_first_none name body (f ∷ fs) h =
     let parts = and_parts (not (is_named name f)) (list_all (λ g. not (is_named name g)) fs) h in
@@ -121,37 +129,8 @@ replaced_first_at name body (e ∷ fs) gs f h is =
     cond-false (is_named name e) ((e.0, body) ∷ (fs ++ f ∷ gs)) (e ∷ replaced_first name body (fs ++ f ∷ gs)) (not-true (is_named name e) parts.0)
     ∙ ap (λ (t : List RawField). e ∷ t) (replaced_first_at name body fs gs f parts.1 is)
 
-all_before : {X : Type 0} (p : X → Bool) (xs : List X) (k : ℕ) → k ≤ position_or_len p xs → list_all (λ x. not (p x)) (take k xs) ≡ true
-all_before p xs k le =
-    list_all-from_AllPass (λ x. not (p x)) (take k xs) (λ i d lt. rw (get_or-take k xs i d (omega (arith, length-take k xs))) (not_from_false _ (fails_before_first p xs i d (omega (arith, length-take k xs)))))
-
-pub replaced_first_is : (name body : List ℕ) (fs : List RawField) (k : ℕ) → Some k ≡ position (is_named name) fs → (k < length fs) × (replaced_first name body fs ≡ with_body fs k body)
-replaced_first_is name body fs k e =
-    let at = position_or_len (is_named name) fs in
-    elim (cases_lt at (length fs)) [
-      | inl lt ↦
-          let same : k ≡ at = some_same k at (e ∙ cond-true (ltb at (length fs)) (Some at) None (lt-ltb at (length fs) lt)) in
-          let within : k < length fs = omega arith in
-          let named : is_named name (get_or fs k ([], [])) ≡ true = ap (λ i. is_named name (get_or fs i ([], []))) same ∙ passes_at_first (is_named name) fs ([], []) lt in (
-            within,
-            ap (replaced_first name body) (around fs k ([], []) within)
-                ∙ replaced_first_at name body (take k fs) (drop (k + 1) fs) (get_or fs k ([], [])) (all_before (is_named name) fs k (omega arith)) named
-                ∙ sym (set_around fs k ((get_or fs k ([], [])).0, body) within),
-          )
-      | inr le ↦ absurd (some_none k (e ∙ cond-false (ltb at (length fs)) (Some at) None (le-ltb at (length fs) le)))
-    ] where
-      some_same : (a b : ℕ) → Some a ≡ Some b → a ≡ b
-      some_same a b h = cc
-
-      some_none : (a : ℕ) → Some a ≡ None → ⊥
-      some_none a h = cc
-
-pub replaced_first_added : (name body : List ℕ) (fs : List RawField) → None ≡ position (is_named name) fs → replaced_first name body fs ≡ fs ++ (name, body) ∷ []
-replaced_first_added name body fs e =
-    let at = position_or_len (is_named name) fs in
-    elim (cases_lt at (length fs)) [
-      | inl lt ↦ absurd (none_some at (e ∙ cond-true (ltb at (length fs)) (Some at) None (lt-ltb at (length fs) lt)))
-      | inr le ↦ replaced_first_none name body fs (subst (λ (t : List RawField). list_all (λ g. not (is_named name g)) t ≡ true) (take_all (length fs) fs (omega arith)) (all_before (is_named name) fs (length fs) le))
-    ] where
-      none_some : (a : ℕ) → None ≡ Some a → ⊥
-      none_some a h = cc
+pub replaced_first_is : (name body : List ℕ) (fs : List RawField) (k : ℕ) → IsFirstNamed name fs k → replaced_first name body fs ≡ with_body fs k body
+replaced_first_is name body fs k h =
+    ap (replaced_first name body) (around fs k ([], []) h.within)
+    ∙ replaced_first_at name body (take k fs) (drop (k + 1) fs) (get_or fs k ([], [])) h.before h.named
+    ∙ sym (set_around fs k ((get_or fs k ([], [])).0, body) h.within)

@@ -1,14 +1,14 @@
 -- What a head's written form and an empty line are read as, whatever follows.
-use Rattle.std.proofs.Common.{◌≡◌, ℕ, suc, ◌+◌, ◌<◌, ◌≤◌, Bool, true, false, not, ◌&&◌, cond, eqb, leb, inl, inr, List, [], ◌∷◌, ◌++◌, length, Option, Some, None, Ok, refl, sym, ap, subst, ◌∙◌, append_assoc, arith}
+use Rattle.std.proofs.Common.{get_or, take, drop, ◌≡◌, ℕ, suc, ◌+◌, ◌<◌, ◌≤◌, Bool, true, false, not, ◌&&◌, cond, eqb, leb, inl, inr, List, [], ◌∷◌, ◌++◌, length, Option, Some, None, Ok, refl, sym, ap, subst, ◌∙◌, append_assoc, arith}
 use Rattle.std.specs.List.{list_all, list_any}
-use Rattle.std.proofs.lemmas.Bool.{cond-true, cond-false, cases_Bool, and_parts, or_from, eqb-true, leb-true, not-true, ne_eqb, false≢true}
-use Rattle.std.proofs.lemmas.List.{length-append, append-nil}
+use Rattle.std.proofs.lemmas.Bool.{cond-true, cond-false, cases_Bool, and_parts, or_from, and_from, not_from_false, eqb-true, leb-true, not-true, ne_eqb, false≢true}
+use Rattle.std.proofs.lemmas.List.{length-append, append-nil, take-append-drop, drop_more, length-take}
 use Rattle.mj_terms.specs.Text.{is_blank, trim_back}
 use Rattle.mj_head.specs.declared.fault.HeadFault.{HeadFault}
 use Rattle.mj_head.specs.declared.fault.HeadFault.TheVariants.{ContinuationFirst, NoColon, BadName}
 use Rattle.mj_head.specs.Head.{RawField, lines, lengthened, content, is_line_end, head_lines, body_place, is_continuation, begins_blank, after_colon, name_of, is_name_byte, is_field_name, is_folded, is_raw_body, is_field, is_head, continued, fields_of, written, added_by, form_fault, first_fault, unless, head_of}
 use Rattle.mj_head.specs.Fields.{IsSomeHead}
-use Rattle.mj_head.specs.Reading.{begins_continued}
+use Rattle.mj_head.specs.Reading.{begins_continued, BeginsField}
 use Rattle.mj_head.proofs.Lines.{Lacks, Lacks-cons, Lacks-first, Lacks-rest, cases_last}
 use Rattle.mj_head.proofs.Names.{has_colon, before_colon_at, after_colon_at, trim_back_at}
 use Rattle.mj_head.proofs.Steps.{begins, no_end, no_zero, form_continued, added_continued, is_some_continued, fault_step}
@@ -155,12 +155,12 @@ trim_back_name name h =
     ]
 
 -- what a field's first line says
-record IsLine (name value line : List ℕ) : Type 0 where
-  begins : is_continuation line ≡ false
-  name_is : name_of line ≡ name
-  value_is : after_colon line ≡ value
-  form : (k : ℕ) → form_fault k line ≡ None
-  added : added_by line ≡ length name + length value + 3
+pub record IsLine (name value line : List ℕ) : Type 0 where
+  pub begins : is_continuation line ≡ false
+  pub name_is : name_of line ≡ name
+  pub value_is : after_colon line ≡ value
+  pub form : (k : ℕ) → form_fault k line ≡ None
+  pub added : added_by line ≡ length name + length value + 3
 
 no_blank_front : (name value : List ℕ) → is_field_name name ≡ true → is_continuation (name ++ 58 ∷ value) ≡ false
 no_blank_front [] value h = absurd (false≢true h)
@@ -170,7 +170,7 @@ no_blank_front (b ∷ name) value h =
 chain_none : (a c d : Bool) (x y z : Option HeadFault) → a ≡ false → c ≡ true → d ≡ true → cond a x (cond (not c) y (cond (not d) z None)) ≡ None
 chain_none a c d x y z p q r = rw (p, q, r) refl
 
-is_line : (name value : List ℕ) → is_field_name name ≡ true → IsLine name value (name ++ 58 ∷ value)
+pub is_line : (name value : List ℕ) → is_field_name name ≡ true → IsLine name value (name ++ 58 ∷ value)
 is_line name value h =
     let line : List ℕ = name ++ 58 ∷ value in
     let bytes : list_all is_name_byte name ≡ true = (and_parts (not (eqb (length name) 0)) (list_all is_name_byte name) h).1 in
@@ -321,3 +321,20 @@ push_parts fs f h =
     let head = some_head_is (fs ++ f ∷ []) h in
     let parts = list_all_parts is_field fs (f ∷ []) (head_fields (fs ++ f ∷ []) head) in
     ((and_parts (is_field f) true parts.1).0, omega (arith, head_short (fs ++ f ∷ []) head, length-written_push fs f))
+
+-- a line whose first bytes other than those of names are a colon
+pub line_parts : (number : ℕ) (line : List ℕ) (end : ℕ) → 0 < end → end < length line → list_all is_name_byte (take end line) ≡ true → get_or line end 0 ≡ 58 → BeginsField number line (take end line) (drop (end + 1) line)
+line_parts number line end some lt name colon =
+    let whole : line ≡ take end line ++ 58 ∷ drop (end + 1) line =
+    sym (take-append-drop end line) ∙ ap (λ (t : List ℕ). take end line ++ t) (drop_more line end 0 lt ∙ ap (λ b. b ∷ drop (end + 1) line) colon) in
+    let named : is_field_name (take end line) ≡ true =
+    and_from (not (eqb (length (take end line)) 0)) (list_all is_name_byte (take end line)) (not_from_false (eqb (length (take end line)) 0) (ne_eqb (length (take end line)) 0 (λ e. absurd (omega (arith, length-take end line))))) name in
+    let l = is_line (take end line) (drop (end + 1) line) named in
+    let parts : BeginsField number (take end line ++ 58 ∷ drop (end + 1) line) (take end line) (drop (end + 1) line) = record {
+      form = l.form number;
+      begins = l.begins;
+      colon = has_colon (take end line) (drop (end + 1) line);
+      name_is = l.name_is;
+      value_is = l.value_is;
+    } in
+    subst (λ (t : List ℕ). BeginsField number t (take end line) (drop (end + 1) line)) (sym whole) parts

@@ -2,7 +2,11 @@ pub mod Lines
 pub mod Names
 pub mod Steps
 pub mod Forms
+pub mod Laid
 pub mod Whole
 pub mod Changes
 pub mod Law
+pub mod Removal
+pub mod Replacing
+pub mod Places
 pub mod Unfolding

@@ -1,8 +1,8 @@
 -- A line around its first colon, and a text without the blanks at its end.
 use Rattle.std.proofs.Common.{◌≡◌, ℕ, suc, ◌+◌, ◌<◌, ◌≤◌, Bool, true, false, not, ◌||◌, eqb, inl, inr, List, [], ◌∷◌, ◌++◌, length, get_or, take, drop, Some, refl, sym, ap, ◌∙◌, arith}
 use Rattle.std.specs.List.{list_all, list_any}
-use Rattle.std.proofs.lemmas.Bool.{and_from, and_left, and_right, false_from_ne_true, cond-true, cond-false, or_from, cond_both, cases_Bool}
-use Rattle.std.proofs.lemmas.List.{take-append-drop, take_more, get_or-drop, length-drop}
+use Rattle.std.proofs.lemmas.Bool.{and_from, and_left, and_right, false_from_ne_true, cond-true, cond-false, or_from, cond_both, cases_Bool, false≢true, eqb-true}
+use Rattle.std.proofs.lemmas.List.{take-append-drop, take_more, get_or-drop, length-drop, length-append}
 use Rattle.bstr.specs.Find.{IsLastByte, Nowhere, Passes}
 use Rattle.bstr.specs.Bytes.{is_in, not_in}
 use Rattle.mj_terms.specs.Text.{is_blank, trim_back}
@@ -84,14 +84,42 @@ trim_back-le : (text : List ℕ) → length (trim_back text) ≤ length text
 trim_back-le [] = omega arith
 trim_back-le (b ∷ text) = cond_both (list_all is_blank (b ∷ text)) [] (b ∷ trim_back text) (λ (t : List ℕ). length t ≤ length (b ∷ text)) (λ _. omega arith) (λ _. omega (arith, trim_back-le text))
 
-before_after-le : (line : List ℕ) → length (before_colon line) + length (after_colon line) ≤ length line
-before_after-le [] = omega arith
-before_after-le (b ∷ line) =
+before_after-lt : (line : List ℕ) → list_any (λ b. eqb b 58) line ≡ true → length (before_colon line) + length (after_colon line) < length line
+before_after-lt [] h = absurd (false≢true h)
+before_after-lt (b ∷ line) h =
     elim (cases_Bool (eqb b 58)) [
       | inl e ↦ rw e (omega arith)
-      | inr e ↦ rw e (omega (arith, before_after-le line))
+      | inr e ↦ rw e (let more = before_after-lt line (sym (ap (λ (x : Bool). x || list_any (λ c. eqb c 58) line) e) ∙ h) in omega arith)
     ]
 
--- a line's name and value are no longer than it
-pub name_value-le : (line : List ℕ) → length (trim_back (before_colon line)) + length (after_colon line) ≤ length line
-name_value-le line = omega (arith, trim_back-le (before_colon line), before_after-le line)
+-- a line's name and value are shorter than it
+pub name_value-lt : (line : List ℕ) → list_any (λ b. eqb b 58) line ≡ true → length (trim_back (before_colon line)) + length (after_colon line) < length line
+name_value-lt line h = omega (arith, trim_back-le (before_colon line), before_after-lt line h)
+
+-- ---- a line that is its name, the colon and what follows it
+
+around_colon : (line : List ℕ) → list_any (λ b. eqb b 58) line ≡ true → line ≡ before_colon line ++ 58 ∷ after_colon line
+around_colon [] h = absurd (false≢true h)
+around_colon (b ∷ line) h =
+    elim (cases_Bool (eqb b 58)) [
+      | inl e ↦ rw (e, eqb-true b 58 e) refl
+      | inr e ↦ rw e (ap (λ (t : List ℕ). b ∷ t) (around_colon line (sym (ap (λ (x : Bool). x || list_any (λ c. eqb c 58) line) e) ∙ h)))
+    ]
+
+untrimmed : (text : List ℕ) → length text ≤ length (trim_back text) → trim_back text ≡ text
+untrimmed [] h = refl
+untrimmed (b ∷ text) h =
+    elim (cases_Bool (list_all is_blank (b ∷ text))) [
+      | inl e ↦ absurd (omega (arith, h, ap length (cond-true (list_all is_blank (b ∷ text)) [] (b ∷ trim_back text) e)))
+      | inr e ↦
+          let same = cond-false (list_all is_blank (b ∷ text)) [] (b ∷ trim_back text) e in
+          same ∙ ap (λ (t : List ℕ). b ∷ t) (untrimmed text (omega (arith, h, ap length same)))
+    ]
+
+pub whole_line : (line name value : List ℕ) → list_any (λ b. eqb b 58) line ≡ true → trim_back (before_colon line) ≡ name → after_colon line ≡ value → length name + length value + 1 ≡ length line → line ≡ name ++ 58 ∷ value
+whole_line line name value h n v len =
+    let front : List ℕ = before_colon line in
+    let whole = around_colon line h in
+    let all : length line ≡ length front + (length (after_colon line) + 1) = omega (arith, ap length whole, length-append front (58 ∷ after_colon line)) in
+    let same : trim_back front ≡ front = untrimmed front (omega (arith, all, ap length n, ap length v, len)) in
+    whole ∙ ap (λ (t : List ℕ). t ++ 58 ∷ after_colon line) (sym same ∙ n) ∙ ap (λ (t : List ℕ). name ++ 58 ∷ t) v

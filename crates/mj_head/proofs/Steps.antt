@@ -1,11 +1,12 @@
 -- One line of the reader, by what the definitions say of the whole text.
-use Rattle.std.proofs.Common.{◌≡◌, ℕ, suc, ◌+◌, ◌<◌, ◌≤◌, Bool, true, false, cond, eqb, ltb, inl, inr, List, [], ◌∷◌, length, Option, Some, None, refl, sym, ap, ◌∙◌, arith}
+use Rattle.std.proofs.Common.{◌≡◌, ℕ, suc, ◌+◌, ◌<◌, ◌≤◌, Bool, true, false, cond, eqb, ltb, inl, inr, List, [], ◌∷◌, ◌++◌, length, Option, Some, None, refl, sym, ap, ◌∙◌, append_assoc, arith}
 use Rattle.std.proofs.lemmas.Bool.{cond-true, cond-false, cases_Bool, eqb-true, ne_eqb, le-ltb, false≢true, and_right}
+use Rattle.std.proofs.lemmas.List.{append-nil}
 use Rattle.mj_terms.specs.Text.{is_blank}
 use Rattle.mj_head.specs.declared.fault.HeadFault.{HeadFault}
 use Rattle.mj_head.specs.declared.fault.HeadFault.TheVariants.{ContinuationFirst, TooLong}
-use Rattle.mj_head.specs.Head.{lines, lengthened, content, is_line_end, is_continuation, begins_blank, added_by, form_fault, or_else, first_fault}
-use Rattle.mj_head.specs.Reading.{begins_continued}
+use Rattle.mj_head.specs.Head.{head_lines, continued, written, lines, lengthened, content, is_line_end, is_continuation, begins_blank, added_by, form_fault, or_else, first_fault}
+use Rattle.mj_head.specs.Reading.{begins_continued, ended}
 
 -- ---- what stands at the front
 
@@ -62,3 +63,44 @@ added_continued line e = cond-true (is_continuation line) (length line + 2) _ e
 pub form_continued : (k : ℕ) (line : List ℕ) → is_continuation line ≡ true → 1 < k → form_fault k line ≡ None
 form_continued k line e later =
     cond-true (is_continuation line) (cond (eqb k 1) (Some (ContinuationFirst k)) None) _ e ∙ cond-false (eqb k 1) (Some (ContinuationFirst k)) None (ne_eqb k 1 (λ one. absurd (omega arith)))
+
+-- ---- a field's lines, each with CRLF at its end
+
+pub ended_continued : (ls : List (List ℕ)) → 13 ∷ 10 ∷ ended ls ≡ continued ls ++ 13 ∷ 10 ∷ []
+ended_continued [] = refl
+ended_continued (line ∷ ls) =
+    elim (cases_Bool (is_continuation line)) [
+      | inl e ↦
+          let more : List ℕ = line ++ (continued ls ++ 13 ∷ 10 ∷ []) in
+          ap (λ (t : List ℕ). 13 ∷ 10 ∷ t) (cond-true (is_continuation line) ((line ++ 13 ∷ 10 ∷ []) ++ ended ls) [] e ∙ append_assoc line (13 ∷ 10 ∷ []) (ended ls) ∙ ap (λ (t : List ℕ). line ++ t) (ended_continued ls))
+          ∙ ap (λ (t : List ℕ). 13 ∷ 10 ∷ t) (sym (append_assoc line (continued ls) (13 ∷ 10 ∷ [])))
+          ∙ ap (λ (t : List ℕ). t ++ 13 ∷ 10 ∷ []) (sym (cond-true (is_continuation line) ((13 ∷ 10 ∷ line) ++ continued ls) [] e))
+      | inr e ↦
+          ap (λ (t : List ℕ). 13 ∷ 10 ∷ t) (cond-false (is_continuation line) ((line ++ 13 ∷ 10 ∷ []) ++ ended ls) [] e)
+          ∙ ap (λ (t : List ℕ). t ++ 13 ∷ 10 ∷ []) (sym (cond-false (is_continuation line) ((13 ∷ 10 ∷ line) ++ continued ls) [] e))
+    ]
+
+ended_none : (ls : List (List ℕ)) → begins_continued ls ≡ false → ended (head_lines ls) ≡ []
+ended_none [] e = refl
+ended_none (line ∷ ls) e =
+    elim (cases_Bool (eqb (length (content line)) 0)) [
+      | inl empty ↦ ap ended (cond-true (eqb (length (content line)) 0) [] (content line ∷ head_lines ls) empty)
+      | inr some ↦
+          ap ended (cond-false (eqb (length (content line)) 0) [] (content line ∷ head_lines ls) some)
+          ∙ cond-false (is_continuation (content line)) ((content line ++ 13 ∷ 10 ∷ []) ++ ended (head_lines ls)) [] e
+    ]
+
+-- what is at the end of a text behind a field's first line and those that continue it
+pub put_whole : (old front new name value : List ℕ) (ls rest : List (List ℕ)) → front ≡ old ++ ((name ++ 58 ∷ value) ++ 13 ∷ 10 ∷ []) → front ++ ended ls ≡ new ++ ended (head_lines rest) → begins_continued rest ≡ false → new ≡ old ++ written ((name, value ++ continued ls) ∷ [])
+put_whole old front new name value ls rest f same over =
+    sym (append-nil new)
+    ∙ ap (λ (t : List ℕ). new ++ t) (sym (ended_none rest over))
+    ∙ sym same
+    ∙ ap (λ (t : List ℕ). t ++ ended ls) f
+    ∙ append_assoc old ((name ++ 58 ∷ value) ++ 13 ∷ 10 ∷ []) (ended ls)
+    ∙ ap (λ (t : List ℕ). old ++ t) (
+    append_assoc (name ++ 58 ∷ value) (13 ∷ 10 ∷ []) (ended ls)
+    ∙ ap (λ (t : List ℕ). (name ++ 58 ∷ value) ++ t) (ended_continued ls)
+    ∙ append_assoc name (58 ∷ value) (continued ls ++ 13 ∷ 10 ∷ [])
+    ∙ ap (λ (t : List ℕ). name ++ t) (sym (append_assoc (58 ∷ value) (continued ls) (13 ∷ 10 ∷ [])))
+    )

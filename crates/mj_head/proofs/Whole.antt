@@ -4,8 +4,11 @@ use Rattle.std.specs.List.{list_all}
 use Rattle.std.proofs.lemmas.Bool.{and_from, eqb-true, le-leb, both_ways}
 use Rattle.std.proofs.lemmas.List.{length-append, append-nil, nil_from_length}
 use Rattle.mj_head.specs.declared.cursor.Cursor.{Cursor}
+use Rattle.mj_head.specs.declared.lengths.Lengths.{Lengths}
 use Rattle.mj_head.specs.Head.{RawField, lines, head_lines, body_place, fields_of, written, first_fault, is_field, is_head}
 use Rattle.mj_head.specs.Reading.{begins_continued, head_at, fault_from, ReadsField}
+use Rattle.mj_head.specs.Layout.{lengths_of, layout}
+use Rattle.mj_head.proofs.Laid.{written-append, layout-append}
 use Rattle.mj_head.proofs.Forms.{lines_lack, fields_formed}
 
 -- these fields were read of the bytes up to the cursor
@@ -40,15 +43,25 @@ head_read bytes fields cursor h over =
     (ap (list_all is_field) (sym fields-are) ∙ fields_formed 65536 1 0 head fault (lines_lack bytes))
     (le-leb (length (written fields)) 65536 (omega (arith, h.len, cursor.short)))
 
+-- these bytes up to the cursor were read as fields, of these lengths and with this written form
+pub record KeptSoFar (bytes text : List ℕ) (lengths : List Lengths) (cursor : Cursor) : Type 0 where
+  pub fields : List RawField
+  pub text_is : text ≡ written fields
+  pub lengths_are : lengths ≡ layout fields
+  pub read : ReadSoFar bytes fields cursor
+
 -- one field more
-pub reads_on : (bytes : List ℕ) (fields : List RawField) (field : RawField) (from to : Cursor) → ReadSoFar bytes fields from → ReadsField field from to → length to.rest.now ≤ length from.rest.now → ReadSoFar bytes (fields ++ field ∷ []) to
-reads_on bytes fields field from to h r shorter = record {
-  fault = h.fault ∙ r.goes_on.fault;
-  place = omega (arith, h.place, r.goes_on.place);
-  fields = append_assoc fields (field ∷ []) (fields_of (head_at to)) ∙ ap (λ (fs : List RawField). fields ++ fs) (sym r.fields) ∙ h.fields;
-  len = length-written_push fields field ∙ (omega (arith, h.len, r.len));
-  begins = λ e. absurd (ends e);
-  within = omega (arith, h.within, shorter);
-} where
-  ends : begins_continued (lines to.rest.now) ≡ true → ⊥
-  ends e = both_ways (begins_continued (lines to.rest.now)) r.ends e
+pub reads_on : (bytes old new : List ℕ) (lengths : List Lengths) (field : Lengths) (from to : Cursor) → KeptSoFar bytes old lengths from → ReadsField old new field from to → length to.rest.now ≤ length from.rest.now → KeptSoFar bytes new (lengths ++ field ∷ []) to
+reads_on bytes old new lengths field from to h r shorter = record {
+  fields = h.fields ++ r.field ∷ [];
+  text_is = r.text ∙ ap (λ (t : List ℕ). t ++ written (r.field ∷ [])) h.text_is ∙ sym (written-append h.fields (r.field ∷ []));
+  lengths_are = ap (λ (l : Lengths). lengths ++ l ∷ []) r.lengths_are ∙ ap (λ (ls : List Lengths). ls ++ lengths_of r.field ∷ []) h.lengths_are ∙ sym (layout-append h.fields (r.field ∷ []));
+  read = record {
+    fault = h.read.fault ∙ r.goes_on.fault;
+    place = omega (arith, h.read.place, r.goes_on.place);
+    fields = append_assoc h.fields (r.field ∷ []) (fields_of (head_at to)) ∙ ap (λ (fs : List RawField). h.fields ++ fs) (sym r.fields) ∙ h.read.fields;
+    len = length-written_push h.fields r.field ∙ (omega (arith, h.read.len, r.len));
+    begins = λ e. absurd (both_ways (begins_continued (lines to.rest.now)) r.ends e);
+    within = omega (arith, h.read.within, shorter);
+  };
+}

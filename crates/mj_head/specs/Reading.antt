@@ -1,9 +1,13 @@
 -- What the steps of the reader say.
-use Rattle.std.specs.Prelude.{◌≡◌, ℕ, ◌+◌, ◌-◌, ◌≤◌, nat_lt, take, slice_index, ◌==◌, ◌&&◌, if◌then◌else◌, Bool, false, List, [], ◌∷◌, ◌++◌, length, slice_set, slice_index_or, Option, Some, None}
+use Rattle.std.specs.Prelude.{◌≡◌, ℕ, ◌+◌, ◌-◌, ◌<◌, ◌≤◌, nat_lt, take, slice_index, ◌==◌, ◌&&◌, if◌then◌else◌, Bool, true, false, not, List, [], ◌∷◌, ◌++◌, length, slice_set, slice_index_or, Option, Some, None}
+use Rattle.std.specs.List.{list_all, list_any}
 use Rattle.mj_head.specs.declared.fault.HeadFault.{HeadFault}
 use Rattle.mj_head.specs.declared.fault.HeadFault.TheVariants.{ContinuationFirst, NoColon, BadName, TooLong, Memory}
 use Rattle.mj_head.specs.declared.cursor.Cursor.{Cursor}
-use Rattle.mj_head.specs.Head.{RawField, lines, content, head_lines, body_place, is_continuation, after_colon, name_of, continued, fields_of, form_fault, first_fault}
+use Rattle.mj_head.specs.declared.lengths.Lengths.{Lengths}
+use Rattle.mj_head.specs.Head.{RawField, lines, content, head_lines, body_place, is_continuation, after_colon, name_of, continued, fields_of, written, form_fault, first_fault}
+use Rattle.mj_head.specs.Fields.{is_named}
+use Rattle.mj_head.specs.Layout.{lengths_of}
 
 -- the first line of a text, without its end, and the text behind it
 pub record IsFirstLine (text line rest : List ℕ) : Type 0 where
@@ -29,6 +33,7 @@ IsFault Memory found = Unit {0}
 pub record BeginsField (number : ℕ) (line name value : List ℕ) : Type 0 where
   pub form : form_fault number line ≡ None
   pub begins : is_continuation line ≡ false
+  pub colon : list_any (λ b. b == 58) line ≡ true
   pub name_is : name_of line ≡ name
   pub value_is : after_colon line ≡ value
 
@@ -51,20 +56,38 @@ empty_line_len [] = 0
 empty_line_len (a ∷ []) = if a == 10 then 1 else 0
 empty_line_len (a ∷ b ∷ text) = if a == 10 then 1 else if a == 13 && b == 10 then 2 else 0
 
--- the lines between two cursors go on with a raw body
+-- the lines that go on with a field from the first one on, each with CRLF at its end
+abbrev pub ended : List (List ℕ) → List ℕ
+ended [] = []
+ended (line ∷ rest) = if is_continuation line then (line ++ 13 ∷ 10 ∷ []) ++ ended rest else []
+
+-- the lines between two cursors go on with the field at the end of a text
 pub record Continues (old new : List ℕ) (from to : Cursor) : Type 0 where
   pub goes_on : GoesOn from to
-  pub body : old ++ continued (head_at from) ≡ new ++ continued (head_at to)
+  pub text : old ++ ended (head_at from) ≡ new ++ ended (head_at to)
   pub fields : fields_of (head_at from) ≡ fields_of (head_at to)
   pub len : to.written + length old ≡ from.written + length new
   pub later : from.line ≤ to.line
 
--- the lines between two cursors are a field
-pub record ReadsField (field : RawField) (from to : Cursor) : Type 0 where
+-- the lines between two cursors are a field, of these lengths, whose written form was put at the end of a text
+pub record ReadsField (old new : List ℕ) (lengths : Lengths) (from to : Cursor) : Type 0 where
+  pub field : RawField
+  pub lengths_are : lengths ≡ lengths_of field
+  pub text : new ≡ old ++ written (field ∷ [])
   pub goes_on : GoesOn from to
   pub fields : fields_of (head_at from) ≡ field ∷ fields_of (head_at to)
   pub ends : begins_continued (lines to.rest.now) ≡ false
   pub len : to.written ≡ from.written + length field.0 + length field.1 + 3
+
+-- no field has this name
+abbrev pub NoneIsNamed : List ℕ → List RawField → Type 0
+NoneIsNamed name fields = list_all (λ field. not (is_named name field)) fields ≡ true
+
+-- the first field of this name stands at this place
+pub record IsFirstNamed (name : List ℕ) (fields : List RawField) (place : ℕ) : Type 0 where
+  pub within : place < length fields
+  pub before : NoneIsNamed name (take place fields)
+  pub named : is_named name (slice_index_or fields place ([], [])) ≡ true
 
 -- the fields, of which the one at this place has this raw body now
 abbrev pub with_body : List RawField → ℕ → List ℕ → List RawField

@@ -1,38 +1,41 @@
 //! A head: a list of fields.
-ghost use Rattle.std.specs.Prelude.{◌≡◌, ◌+◌, ◌<◌, ◌≤◌, ◌==◌, ◌↔◌, [], ◌∷◌, ◌++◌, true, false, not, length, filter, count_by, slice_get, IsTrue, Option, Result, IfOk, OnOk, OnErr, List, ℕ};
+ghost use Rattle.std.specs.Prelude.{◌≡◌, ◌+◌, ◌<◌, ◌≤◌, ◌==◌, ◌↔◌, [], ◌∷◌, ◌++◌, true, false, not, length, filter, count_by, slice_get, take, drop, IsTrue, Option, Result, IfOk, OnOk, OnErr, List, ℕ};
 ghost use Rattle.std.specs.Option.{option_copied, option_map};
-ghost use Rattle.mj_head.specs.Head.{written, is_head, is_field_name, head_of};
+ghost use Rattle.mj_head.specs.Head.{written, is_head, is_field, is_field_name, head_of};
 ghost use Rattle.mj_head.specs.Reading.{with_body};
 ghost use Rattle.mj_head.specs.Fields.{is_named, unfolded, is_field_value, replaced_first, IsSomeHead};
 
 use crate::cursor::WRITTEN_LIMIT;
-use crate::field::{Field, value_body};
-use crate::fields::{
-    copy_fields, count_named, first_named, place_named, remove_named, set_body, write_fields,
-    written_len,
-};
+use crate::field::Field;
+use crate::fields::{count_named, fields_from, first_named, place_named, put_field, remove_named};
+use crate::lengths::Lengths;
 use crate::read::is_field;
 use crate::unfold::unfold;
+use crate::walk::Walk;
 use std::alloc::{AllocError, Global};
 use std::marker::Model;
 
 /// The head of a message: its fields in order, in a written form of at most 65,536 bytes (RFC 5322,
-/// 2.2). Contracts see the list of its fields.
+/// 2.2). It is this written form, and beside it the lengths of each field's parts. Contracts see the
+/// list of its fields.
 #[derive(Debug, Drop)]
 pub struct Head {
-    pub(crate) fields: Vec<Field>,
-    pub(crate) written_len: usize,
+    pub(crate) text: Vec<u8>,
+    pub(crate) lengths: Vec<Lengths>,
 }
 
 impl Model for Head {
-    ghost use Rattle.std.specs.Prelude.{◌≡◌, ℕ, List, true, length};
-    ghost use Rattle.mj_head.specs.Head.{written, is_head};
+    ghost use Rattle.std.specs.Prelude.{◌≡◌, ℕ, List, true};
+    ghost use Rattle.mj_head.specs.Head.{is_head};
 
     ghost Value = { List (List ℕ × List ℕ) };
 
-    ghost view = { λ head. head.fields.items };
+    ghost use Rattle.mj_head.specs.Layout.{fields_at, IsLaidOut};
 
-    ghost invariant = { λ head. (is_head head.fields.items ≡ true) × (head.written_len ≡ length (written head.fields.items)) };
+    ghost view = { λ head. fields_at head.lengths.items head.text.items };
+
+    ghost invariant = { λ head. IsLaidOut head.lengths.items head.text.items
+        × (is_head (fields_at head.lengths.items head.text.items) ≡ true) };
 }
 
 impl Head {
@@ -41,8 +44,8 @@ impl Head {
         ensures { result ≡ [] }
     {
         Head {
-            fields: Vec::new(alloc),
-            written_len: 0,
+            text: Vec::new(alloc),
+            lengths: Vec::new(alloc),
         }
     }
 
@@ -50,21 +53,30 @@ impl Head {
     pub fn len(&self) -> usize
         ensures { result ≡ length self.now }
     {
-        self.fields.len()
+        self.lengths.len()
     }
 
     /// Whether there is no field.
     pub fn is_empty(&self) -> bool
         ensures { result ≡ (length self.now == 0) }
     {
-        self.fields.is_empty()
+        self.lengths.is_empty()
     }
 
     /// The field at this place, from 0; `None` where there are no more than `place` fields.
-    pub fn get(&self, place: usize) -> Option<&Field>
-        ensures { option_copied result ≡ slice_get self.now place }
+    pub fn get(&self, place: usize) -> Option<Field<'_>>
+        ensures { result ≡ slice_get self.now place }
     {
-        self.fields.get(place)
+        let mut fields = fields_from(self.walk(), place);
+        fields.next()
+    }
+
+    /// Goes over the fields.
+    fn walk(&self) -> Walk<'_>
+        ensures fields { result ≡ self.now }
+        ensures few { length self.now ≤ 65536 }
+    {
+        Walk::new(&self.text, &self.lengths)
     }
 
     /// The number of bytes of the written form, at most 65,536.
@@ -73,14 +85,14 @@ impl Head {
         // What every head is.
         ensures head { is_head self.now ≡ true }
     {
-        self.written_len
+        self.text.len()
     }
 
     /// How many fields have this name, without regard to ASCII case.
     pub fn count(&self, name: &[u8]) -> usize
         ensures { result ≡ count_by (is_named name.now) self.now }
     {
-        count_named(&self.fields, name)
+        count_named(self.walk(), name)
     }
 
     /// Writes the head at the end: name, colon, raw body and CRLF of each field. After an error `out`
@@ -88,33 +100,26 @@ impl Head {
     pub fn write_to(&self, out: &mut Vec<u8>) -> Result<(), AllocError>
         ensures ok { OnOk result (out.new.items ≡ out.old.items ++ written self.now) }
         ensures err { OnErr result (out.new.items ≡ out.old.items) }
+        // What every head is.
+        ensures form { is_head self.now ≡ true }
     {
-        let before = out.len();
-        out.reserve(self.written_len)?;
-        let done = write_fields(&self.fields, out);
-        if done.is_err() {
-            out.truncate(before);
-        }
-        done
+        out.extend_from_slice(&self.text)
     }
 
     /// Takes out every field of this name, without regard to ASCII case.
     pub fn remove(&mut self, name: &[u8])
         ensures { self.new ≡ filter (λ field. not (is_named name.now field)) self.old }
     {
-        remove_named(&mut self.fields, name);
-        self.written_len = written_len(&self.fields);
+        remove_named(&mut self.text, &mut self.lengths, name);
     }
 
     /// A head equal to this one, in memory of its own.
     pub fn copy(&self, alloc: Global) -> Result<Head, AllocError>
         ensures { IfOk result (λ head. head ≡ self.now) }
     {
-        let fields = copy_fields(alloc, &self.fields)?;
-        Ok(Head {
-            fields,
-            written_len: self.written_len,
-        })
+        let text = Vec::from_slice(alloc, &self.text)?;
+        let lengths = Vec::from_slice(alloc, &self.lengths)?;
+        Ok(Head { text, lengths })
     }
 
     /// Adds a field at the end, whose raw body is a space and the value. The answer is `false`, with
@@ -130,12 +135,10 @@ impl Head {
         ensures err { OnErr result (self.new ≡ self.old) }
     {
         let needed = name.len().saturating_add(value.len()).saturating_add(4);
-        if needed > WRITTEN_LIMIT - self.written_len {
+        if needed > WRITTEN_LIMIT - self.text.len() {
             return Ok(false);
         }
-        let field = Field::from_value(*self.fields.allocator(), name, value)?;
-        self.fields.push(field)?;
-        self.written_len += needed;
+        self.push(name, b" ", value)?;
         Ok(true)
     }
 
@@ -153,7 +156,7 @@ impl Head {
         ensures refused { result ≡ Result.Ok false → self.new ≡ self.old }
         ensures err { OnErr result (self.new ≡ self.old) }
     {
-        match place_named(&self.fields, name) {
+        match place_named(self.walk(), name) {
             Some(place) => self.replace_at(place, value),
             None => self.append(name, value),
         }
@@ -170,15 +173,44 @@ impl Head {
         ensures refused { result ≡ Result.Ok false → self.new ≡ self.old }
         ensures err { OnErr result (self.new ≡ self.old) }
     {
-        let others = self.written_len - self.fields[place].body().len();
+        let here = self.lengths[place];
+        let others = self.text.len() - here.body as usize;
         let needed = value.len().saturating_add(1);
         if needed > WRITTEN_LIMIT - others {
             return Ok(false);
         }
-        let body = value_body(*self.fields.allocator(), value)?;
-        set_body(&mut self.fields, place, body);
-        self.written_len = others + needed;
+        let rest = fields_from(self.walk(), place).written_len();
+        let from = self.text.len() - rest + here.name as usize + 1;
+        let to = from + here.body as usize;
+        let alloc = *self.text.allocator();
+        self.text = with_value(alloc, &self.text, from, to, value)?;
+        self.lengths[place] = Lengths {
+            name: here.name,
+            body: needed as u32,
+        };
         Ok(true)
+    }
+
+    /// Adds the field of this name, whose raw body are both parts, at the end.
+    fn push(&mut self, name: &[u8], front: &[u8], body: &[u8]) -> Result<(), AllocError>
+        requires form { is_field (name.now, front.now ++ body.now) ≡ true }
+        requires fits { length (written self.old) + (length name.now + (length front.now + length body.now) + 3) ≤ 65536 }
+        ensures ok { OnOk result (self.new ≡ self.old ++ (name.now, front.now ++ body.now) ∷ []) }
+        ensures err { OnErr result (self.new ≡ self.old) }
+    {
+        let before = self.text.len();
+        let lengths = Lengths {
+            name: name.len() as u32,
+            body: (front.len() + body.len()) as u32,
+        };
+        put_field(&mut self.text, name, front, body)?;
+        match self.lengths.push(lengths) {
+            Ok(()) => Ok(()),
+            Err(_) => {
+                self.text.truncate(before);
+                Err(AllocError)
+            }
+        }
     }
 
     /// Adds the field of this name and raw body at the end. The answer is `false`, with the head as
@@ -194,12 +226,10 @@ impl Head {
         ensures err { OnErr result (self.new ≡ self.old) }
     {
         let needed = name.len().saturating_add(body.len()).saturating_add(3);
-        if needed > WRITTEN_LIMIT - self.written_len || !is_field(name, body) {
+        if needed > WRITTEN_LIMIT - self.text.len() || !is_field(name, body) {
             return Ok(false);
         }
-        let field = Field::from_parts(*self.fields.allocator(), name, body)?;
-        self.fields.push(field)?;
-        self.written_len += needed;
+        self.push(name, b"", body)?;
         Ok(true)
     }
 
@@ -210,11 +240,34 @@ impl Head {
         ensures { IfOk result (λ value.
             option_map (λ text. text.items) value ≡ unfolded name.now self.now) }
     {
-        match first_named(&self.fields, name) {
+        match first_named(self.walk(), name) {
             Some(field) => Ok(Some(unfold(alloc, field.body())?)),
             None => Ok(None),
         }
     }
+}
+
+/// The text with a space and this value in place of what stands from one place to the other.
+fn with_value(
+    alloc: Global,
+    text: &[u8],
+    from: usize,
+    to: usize,
+    value: &[u8],
+) -> Result<Vec<u8>, AllocError>
+    requires order { from ≤ to }
+    requires within { to ≤ length text.now }
+    ensures { IfOk result (λ new.
+        new.items ≡ (take from text.now ++ (32 ∷ value.now)) ++ drop to text.now) }
+{
+    let kept = text.len() - (to - from);
+    let len = kept.saturating_add(value.len()).saturating_add(1);
+    let mut new = Vec::with_capacity(alloc, len)?;
+    new.extend_from_slice(&text[..from])?;
+    new.push(b' ')?;
+    new.extend_from_slice(value)?;
+    new.extend_from_slice(&text[to..])?;
+    Ok(new)
 }
 
 /// The written form of a head: name, colon, raw body and CRLF of each field (RFC 5322, 2.2).

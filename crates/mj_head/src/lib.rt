@@ -6,9 +6,11 @@ mod fault;
 mod field;
 mod fields;
 mod head;
+mod lengths;
 mod line;
 mod read;
 mod unfold;
+mod walk;
 
 pub use fault::HeadFault;
 pub use field::Field;

@@ -1,5 +1,5 @@
 //! Reading a head line by line.
-ghost use Rattle.std.specs.Prelude.{◌≡◌, ◌+◌, ◌<◌, ◌≤◌, [], ◌∷◌, true, false, length, Option, IfOk, IfErr, MatchOption, IsTrue, ◌↔◌, ◌==◌, None};
+ghost use Rattle.std.specs.Prelude.{◌≡◌, ◌+◌, ◌<◌, ◌≤◌, [], ◌∷◌, ◌++◌, true, false, length, take, Option, OnOk, IfOk, IfErr, MatchOption, IsTrue, ◌↔◌, ◌==◌, None};
 ghost use Rattle.std.specs.List.{list_all, list_any};
 ghost use Rattle.mj_terms.specs.Text.{trim_back};
 ghost use Rattle.mj_head.specs.Head.{Gives, lines, body_place, head_lines, form_fault, is_continuation, is_field, is_field_name, is_name_byte, is_raw_body, begins_blank, before_colon, after_colon, head_of};
@@ -8,8 +8,8 @@ ghost use Rattle.mj_head.specs.Reading.{begins_continued, IsFault, BeginsField, 
 
 use crate::cursor::Cursor;
 use crate::fault::HeadFault;
-use crate::field::Field;
 use crate::head::Head;
+use crate::lengths::Lengths;
 use crate::line::first_line;
 use bstr::ByteSlice;
 use std::alloc::{AllocError, Global};
@@ -95,12 +95,39 @@ fn split_at_colon(line: &[u8]) -> Option<(&[u8], &[u8])>
     Some((&line[..colon], &line[colon + 1..]))
 }
 
+/// How many bytes at the front may stand in a name.
+fn name_len(line: &[u8]) -> usize
+    ensures within { result ≤ length line.now }
+    ensures name { list_all is_name_byte (take result line.now) ≡ true }
+{
+    let mut len = 0;
+    while len < line.len() && is_name_byte(line[len]) {
+        len += 1;
+    }
+    len
+}
+
 /// The name of the field that a line begins, and what follows the colon.
 fn field_parts(line: &[u8], number: u32) -> Result<(&[u8], &[u8]), HeadFault>
     requires { is_continuation line.now ≡ true → number ≡ 1 }
     ensures parts { IfOk result (λ parts. BeginsField number line.now parts.0.now parts.1.now) }
     ensures short { IfOk result (λ parts.
-        length parts.0.now + length parts.1.now ≤ length line.now) }
+        length parts.0.now + length parts.1.now < length line.now) }
+    ensures fault { IfErr result (λ fault. IsFault fault (form_fault number line.now)) }
+{
+    let end = name_len(line);
+    if end > 0 && end < line.len() && line[end] == b':' {
+        return Ok((&line[..end], &line[end + 1..]));
+    }
+    spaced_parts(line, number)
+}
+
+/// Does what `field_parts` says, also where blanks stand before the colon.
+fn spaced_parts(line: &[u8], number: u32) -> Result<(&[u8], &[u8]), HeadFault>
+    requires { is_continuation line.now ≡ true → number ≡ 1 }
+    ensures parts { IfOk result (λ parts. BeginsField number line.now parts.0.now parts.1.now) }
+    ensures short { IfOk result (λ parts.
+        length parts.0.now + length parts.1.now < length line.now) }
     ensures fault { IfErr result (λ fault. IsFault fault (form_fault number line.now)) }
 {
     if begins_with_blank(line) {
@@ -135,51 +162,86 @@ fn is_head_over(bytes: &[u8]) -> bool
     bytes.is_empty() || empty > 0
 }
 
-/// Adds the continuation line at the front to a raw body.
-fn read_continuation<'a>(body: &mut Vec<u8>, cursor: Cursor<'a>) -> Result<Cursor<'a>, HeadFault>
+/// Puts a field's first line, of which these are the name and what follows the colon, at the end.
+fn put_first_line(
+    text: &mut Vec<u8>,
+    line: &[u8],
+    name: &[u8],
+    value: &[u8],
+) -> Result<(), AllocError>
+    requires whole { length name.now + length value.now + 1 ≡ length line.now
+        → line.now ≡ name.now ++ 58 ∷ value.now }
+    requires short { length name.now + length value.now < length line.now }
+    ensures { OnOk result (text.new.items ≡ text.old.items ++ ((name.now ++ 58 ∷ value.now) ++ 13 ∷ 10 ∷ [])) }
+{
+    // Without blanks before the colon the line is this already.
+    if name.len() + value.len() + 1 == line.len() {
+        return put_line(text, line);
+    }
+    text.extend_from_slice(name)?;
+    text.extend_from_slice(b":")?;
+    put_line(text, value)
+}
+
+/// Puts a line and CRLF at the end.
+fn put_line(text: &mut Vec<u8>, line: &[u8]) -> Result<(), AllocError>
+    ensures { OnOk result (text.new.items ≡ text.old.items ++ (line.now ++ 13 ∷ 10 ∷ [])) }
+{
+    text.extend_from_slice(line)?;
+    text.extend_from_slice(b"\r\n")
+}
+
+/// Puts the continuation line at the front at the end of the text.
+fn read_continuation<'a>(text: &mut Vec<u8>, cursor: Cursor<'a>) -> Result<Cursor<'a>, HeadFault>
     requires begins { begins_blank cursor.rest.now ≡ true }
     requires later { 1 < cursor.line }
-    ensures lines { IfOk result (λ next. Continues body.old.items body.new.items cursor.entry next) }
+    ensures lines { IfOk result (λ next. Continues text.old.items text.new.items cursor.entry next) }
     ensures shorter { IfOk result (λ next. length next.rest.now < length cursor.entry.rest.now) }
     ensures fault { IfErr result (λ fault. IsFault fault (fault_from cursor.entry)) }
 {
     let (line, rest) = first_line(cursor.rest);
     let next = cursor.behind(rest, line.len() + 2)?;
-    body.extend_from_slice(b"\r\n")?;
-    body.extend_from_slice(line)?;
+    put_line(text, line)?;
     Ok(next)
 }
 
-/// Adds the continuation lines at the front to a raw body.
-fn read_continuations<'a>(body: &mut Vec<u8>, start: Cursor<'a>) -> Result<Cursor<'a>, HeadFault>
+/// Puts the continuation lines at the front at the end of the text.
+fn read_continuations<'a>(text: &mut Vec<u8>, start: Cursor<'a>) -> Result<Cursor<'a>, HeadFault>
     requires { 1 < start.line }
-    ensures lines { IfOk result (λ end. Continues body.old.items body.new.items start.entry end) }
+    ensures lines { IfOk result (λ end. Continues text.old.items text.new.items start.entry end) }
     ensures ends { IfOk result (λ end. begins_continued (lines end.rest.now) ≡ false) }
     ensures shorter { IfOk result (λ end. length end.rest.now ≤ length start.entry.rest.now) }
     ensures fault { IfErr result (λ fault. IsFault fault (fault_from start.entry)) }
 {
     let mut cursor = start;
     while begins_with_blank(cursor.rest) {
-        cursor = read_continuation(body, cursor)?;
+        cursor = read_continuation(text, cursor)?;
     }
     Ok(cursor)
 }
 
-/// Reads the field whose first line stands at the front.
-fn read_field<'a>(alloc: Global, start: Cursor<'a>) -> Result<(Field, Cursor<'a>), HeadFault>
+/// Reads the field whose first line stands at the front, and puts its written form at the end of the
+/// text. After an error a part of it may stand there.
+fn read_field<'a>(text: &mut Vec<u8>, start: Cursor<'a>) -> Result<(Lengths, Cursor<'a>), HeadFault>
     requires some { (length (head_lines (lines start.rest.now)) == 0) ≡ false }
     requires begins { begins_continued (lines start.rest.now) ≡ true → start.line ≡ 1 }
-    ensures lines { IfOk result (λ read. ReadsField read.0 start.entry read.1) }
+    ensures lines { IfOk result (λ read.
+        ReadsField text.old.items text.new.items read.0 start.entry read.1) }
     ensures shorter { IfOk result (λ read. length read.1.rest.now < length start.entry.rest.now) }
     ensures fault { IfErr result (λ fault. IsFault fault (fault_from start.entry)) }
 {
     let (line, rest) = first_line(start.rest);
     let (name, value) = field_parts(line, start.line)?;
     let second = start.behind(rest, name.len() + value.len() + 3)?;
-    let name = Vec::from_slice(alloc, name)?;
-    let mut body = Vec::from_slice(alloc, value)?;
-    let end = read_continuations(&mut body, second)?;
-    Ok((Field { name, body }, end))
+    let from = text.len();
+    put_first_line(text, line, name, value)?;
+    let end = read_continuations(text, second)?;
+    let body = text.len() - from - name.len() - 3;
+    let lengths = Lengths {
+        name: name.len() as u32,
+        body: body as u32,
+    };
+    Ok((lengths, end))
 }
 
 /// Reads the head at the front of the bytes: its fields, and where the body begins (RFC 5322, 2.2).
@@ -193,17 +255,14 @@ pub fn read_head(alloc: Global, bytes: &[u8]) -> Result<(Head, usize), HeadFault
     ensures exact { Gives result (head_of bytes.now) }
     ensures place { IfOk result (λ read. read.1 ≤ length bytes.now) }
 {
-    let mut fields = Vec::new(alloc);
+    let mut text = Vec::new(alloc);
+    let mut lengths = Vec::new(alloc);
     let mut cursor = Cursor::new(bytes);
     while !is_head_over(cursor.rest) {
-        let (field, next) = read_field(alloc, cursor)?;
-        fields.push(field)?;
+        let (field, next) = read_field(&mut text, cursor)?;
+        lengths.push(field)?;
         cursor = next;
     }
     let place = bytes.len() - cursor.rest.len() + empty_line_len(cursor.rest);
-    let head = Head {
-        fields,
-        written_len: cursor.written,
-    };
-    Ok((head, place))
+    Ok((Head { text, lengths }, place))
 }

@@ -129,16 +129,14 @@ fn add_recipient(
     ensures err { IfErr result (λ fault. Gives (Err fault) (with_recipient number found.old (mailbox text.now))) }
 {
     let address = read_mailbox(alloc, text, number)?;
-    if found.contains(&address) {
-        return Ok(());
+    match found.add(address) {
+        Ok(_) => {}
+        Err(_) => return Err(MailFault::Memory),
     }
-    if found.len() == MAX_RECIPIENTS {
+    if found.len() > MAX_RECIPIENTS {
         return Err(MailFault::TooManyRecipients);
     }
-    match found.add(address) {
-        Ok(_) => Ok(()),
-        Err(_) => Err(MailFault::Memory),
-    }
+    Ok(())
 }
 
 fn read_mailbox(alloc: Global, text: &[u8], number: u32) -> Result<Address, MailFault>

@@ -85,7 +85,6 @@ fn put_head(out: &mut Vec<u8>, head: &Head) -> Result<(), Memory>
     ensures head { OnOk result (out.new.items ≡ out.old.items ++ (written head.now ++ 13 ∷ 10 ∷ [])) }
     ensures form { is_head head.now ≡ true }
 {
-    out.reserve(head.written_len() + 2)?;
     head.write_to(out)?;
     out.extend_from_slice(b"\r\n")?;
     Ok(())
