@@ -3,10 +3,11 @@ use Rattle.std.proofs.Common.{◌≡◌, ℕ, suc, ◌+◌, ◌<◌, ◌≤◌, 
 use Rattle.std.proofs.lemmas.Bool.{cond-true, cond-false, cases_Bool, eqb-true, ne_eqb, le-ltb, false≢true, and_right}
 use Rattle.std.proofs.lemmas.List.{append-nil}
 use Rattle.mj_terms.specs.Text.{is_blank}
+use Rattle.mj_head.specs.declared.cursor.Cursor.{Cursor}
 use Rattle.mj_head.specs.declared.fault.HeadFault.{HeadFault}
 use Rattle.mj_head.specs.declared.fault.HeadFault.TheVariants.{ContinuationFirst, TooLong}
-use Rattle.mj_head.specs.Head.{head_lines, continued, written, lines, lengthened, content, is_line_end, is_continuation, begins_blank, added_by, form_fault, or_else, first_fault}
-use Rattle.mj_head.specs.Reading.{begins_continued, ended}
+use Rattle.mj_head.specs.Head.{head_lines, body_place, after_colon, name_of, fields_of, continued, written, lines, lengthened, content, is_line_end, is_continuation, begins_blank, added_by, form_fault, or_else, first_fault}
+use Rattle.mj_head.specs.Reading.{begins_continued, ended, head_at, IsFirstLine, BeginsField, GoesOn}
 
 -- ---- what stands at the front
 
@@ -63,6 +64,41 @@ added_continued line e = cond-true (is_continuation line) (length line + 2) _ e
 pub form_continued : (k : ℕ) (line : List ℕ) → is_continuation line ≡ true → 1 < k → form_fault k line ≡ None
 form_continued k line e later =
     cond-true (is_continuation line) (cond (eqb k 1) (Some (ContinuationFirst k)) None) _ e ∙ cond-false (eqb k 1) (Some (ContinuationFirst k)) None (ne_eqb k 1 (λ one. absurd (omega arith)))
+
+-- ---- the first line of a field
+
+some_line : (line : List ℕ) (ls : List (List ℕ)) → eqb (length (cond (eqb (length line) 0) [] (line ∷ ls))) 0 ≡ false → eqb (length line) 0 ≡ false
+some_line [] ls e = absurd (false≢true (sym e))
+some_line (b ∷ line) ls e = no_zero (length line)
+
+-- behind the first line the head goes on with the lines that continue the field
+pub first_step : (from to : Cursor) (line name value : List ℕ) → IsFirstLine from.rest.now line to.rest.now → eqb (length (head_at from)) 0 ≡ false → BeginsField from.line line name value → to.line ≡ from.line + 1 → to.written ≡ from.written + (length name + length value + 3) → GoesOn from to × (fields_of (head_at from) ≡ (name, value ++ continued (head_at to)) ∷ fields_of (head_at to))
+first_step from to line name value first some begins next added =
+    let ls = head_at to in
+    let heads : head_at from ≡ cond (eqb (length line) 0) [] (line ∷ ls) =
+    ap head_lines first.split ∙ ap (λ (l : List ℕ). cond (eqb (length l) 0) [] (l ∷ ls)) first.said in
+    let is : eqb (length line) 0 ≡ false = some_line line ls (ap (λ (h : List (List ℕ)). eqb (length h) 0) (sym heads) ∙ some) in
+    let head : head_at from ≡ line ∷ ls = heads ∙ cond-false (eqb (length line) 0) [] (line ∷ ls) is in
+    let place : body_place (lines from.rest.now) ≡ length first.whole + body_place (lines to.rest.now) =
+    ap body_place first.split ∙ cond-false (eqb (length (content first.whole)) 0) (length first.whole) (length first.whole + body_place (lines to.rest.now)) (ap (λ (l : List ℕ). eqb (length l) 0) first.said ∙ is) in
+    let adds : added_by line ≡ length name + length value + 3 =
+    cond-false (is_continuation line) (length line + 2) (length (name_of line) + length (after_colon line) + 3) begins.begins
+    ∙ ap (λ (t : List ℕ). length t + length (after_colon line) + 3) begins.name_is
+    ∙ ap (λ (t : List ℕ). length name + length t + 3) begins.value_is in
+    let written : from.written + added_by line ≡ to.written = omega (arith, adds, added) in (
+      record {
+        fault =
+            ap (first_fault 65536 from.line from.written) head
+            ∙ fault_step 65536 from.line from.written line ls begins.form (omega (arith, written, to.short))
+            ∙ ap (λ k. first_fault 65536 k (from.written + added_by line) ls) (sym next)
+            ∙ ap (λ w. first_fault 65536 to.line w ls) written;
+        place = omega (arith, place, first.len);
+      },
+      ap fields_of head
+          ∙ cond-false (is_continuation line) (fields_of ls) ((name_of line, after_colon line ++ continued ls) ∷ fields_of ls) begins.begins
+          ∙ ap (λ (t : List ℕ). (t, after_colon line ++ continued ls) ∷ fields_of ls) begins.name_is
+          ∙ ap (λ (t : List ℕ). (name, t ++ continued ls) ∷ fields_of ls) begins.value_is,
+    )
 
 -- ---- a field's lines, each with CRLF at its end
 

@@ -1,5 +1,5 @@
 //! The lines of a text.
-ghost use Rattle.std.specs.Prelude.{◌≡◌, ◌<◌, length};
+ghost use Rattle.std.specs.Prelude.{◌≡◌, ◌<◌, length, take};
 ghost use Rattle.bstr.specs.Text.{no_cr};
 ghost use Rattle.mj_head.specs.Reading.{IsFirstLine};
 
@@ -21,6 +21,7 @@ fn without_cr(line: &[u8]) -> &[u8]
 pub fn first_line(bytes: &[u8]) -> (&[u8], &[u8])
     requires { 0 < length bytes.now }
     ensures first { IsFirstLine bytes.now result.0.now result.1.now }
+    ensures front { take (length result.0.now) bytes.now ≡ result.0.now }
     ensures shorter { length result.1.now < length bytes.now }
 {
     match bytes.find_byte(b'\n') {

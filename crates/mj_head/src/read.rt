@@ -165,30 +165,46 @@ fn is_head_over(bytes: &[u8]) -> bool
 /// Puts a field's first line, of which these are the name and what follows the colon, at the end.
 fn put_first_line(
     text: &mut Vec<u8>,
+    bytes: &[u8],
     line: &[u8],
     name: &[u8],
     value: &[u8],
 ) -> Result<(), AllocError>
+    requires front { take (length line.now) bytes.now ≡ line.now }
     requires whole { length name.now + length value.now + 1 ≡ length line.now
         → line.now ≡ name.now ++ 58 ∷ value.now }
     requires short { length name.now + length value.now < length line.now }
-    ensures { OnOk result (text.new.items ≡ text.old.items ++ ((name.now ++ 58 ∷ value.now) ++ 13 ∷ 10 ∷ [])) }
+    ensures { OnOk result (text.new.items
+        ≡ text.old.items ++ ((name.now ++ 58 ∷ value.now) ++ 13 ∷ 10 ∷ [])) }
 {
     // Without blanks before the colon the line is this already.
     if name.len() + value.len() + 1 == line.len() {
-        return put_line(text, line);
+        return put_line(text, bytes, line);
     }
     text.extend_from_slice(name)?;
     text.extend_from_slice(b":")?;
-    put_line(text, value)
+    text.extend_from_slice(value)?;
+    text.extend_from_slice(b"\r\n")
 }
 
-/// Puts a line and CRLF at the end.
-fn put_line(text: &mut Vec<u8>, line: &[u8]) -> Result<(), AllocError>
+/// Puts the line at the front of the bytes, and CRLF, at the end.
+fn put_line(text: &mut Vec<u8>, bytes: &[u8], line: &[u8]) -> Result<(), AllocError>
+    requires { take (length line.now) bytes.now ≡ line.now }
     ensures { OnOk result (text.new.items ≡ text.old.items ++ (line.now ++ 13 ∷ 10 ∷ [])) }
 {
+    if has_crlf_at(bytes, line.len()) {
+        return text.extend_from_slice(&bytes[..line.len() + 2]);
+    }
     text.extend_from_slice(line)?;
     text.extend_from_slice(b"\r\n")
+}
+
+/// Whether CRLF stands at this place.
+fn has_crlf_at(bytes: &[u8], place: usize) -> bool
+    ensures { result ≡ true → take (place + 2) bytes.now ≡ take place bytes.now ++ 13 ∷ 10 ∷ [] }
+{
+    let rest = bytes.len().saturating_sub(place);
+    rest > 1 && bytes[place] == b'\r' && bytes[place + 1] == b'\n'
 }
 
 /// Puts the continuation line at the front at the end of the text.
@@ -201,7 +217,7 @@ fn read_continuation<'a>(text: &mut Vec<u8>, cursor: Cursor<'a>) -> Result<Curso
 {
     let (line, rest) = first_line(cursor.rest);
     let next = cursor.behind(rest, line.len() + 2)?;
-    put_line(text, line)?;
+    put_line(text, cursor.rest, line)?;
     Ok(next)
 }
 
@@ -234,7 +250,7 @@ fn read_field<'a>(text: &mut Vec<u8>, start: Cursor<'a>) -> Result<(Lengths, Cur
     let (name, value) = field_parts(line, start.line)?;
     let second = start.behind(rest, name.len() + value.len() + 3)?;
     let from = text.len();
-    put_first_line(text, line, name, value)?;
+    put_first_line(text, start.rest, line, name, value)?;
     let end = read_continuations(text, second)?;
     let body = text.len() - from - name.len() - 3;
     let lengths = Lengths {
