@@ -1,10 +1,9 @@
 -- What a change of the fields does to the head.
-use Rattle.std.proofs.Common.{◌≡◌, ℕ, ◌+◌, ◌<◌, ◌≤◌, Bool, true, false, not, ◌&&◌, ◌||◌, cond, eqb, leb, ltb, Some, None, add-one, List, [], ◌∷◌, ◌++◌, length, get_or, take, drop, set, refl, sym, ap, subst, ◌∙◌, arith, inl, inr}
-use Rattle.std.specs.Prelude.{filter, position}
-use Rattle.std.specs.List.{list_all, position_or_len}
-use Rattle.std.proofs.lemmas.Bool.{and_parts, and_from, leb-true, le-leb, cond-true, cond-false, cond_both, not_from_false, not-true, or_parts, cases_lt, lt-ltb, le-ltb}
-use Rattle.std.proofs.lemmas.List.{length-append, take-append-drop, drop_more, set_split, get_or-take, length-take, take_all}
-use Rattle.std.proofs.lemmas.List.Sums.{list_all-from_AllPass, fails_before_first, passes_at_first}
+use Rattle.std.proofs.Common.{◌≡◌, ℕ, ◌+◌, ◌<◌, ◌≤◌, Bool, true, false, not, ◌&&◌, ◌||◌, cond, eqb, leb, add-one, List, [], ◌∷◌, ◌++◌, length, get_or, take, drop, set, refl, sym, ap, ◌∙◌, arith}
+use Rattle.std.specs.Prelude.{filter}
+use Rattle.std.specs.List.{list_all}
+use Rattle.std.proofs.lemmas.Bool.{and_parts, and_from, leb-true, le-leb, cond-true, cond-false, cond_both, not-true, or_parts}
+use Rattle.std.proofs.lemmas.List.{length-append, take-append-drop, drop_more, set_split}
 use Rattle.mj_head.specs.Head.{RawField, written, is_field, is_head, is_field_name, is_raw_body, is_folded, begins_blank}
 use Rattle.mj_head.specs.Fields.{is_named, is_field_value, replaced_first}
 use Rattle.mj_head.specs.Reading.{with_body, IsFirstNamed}

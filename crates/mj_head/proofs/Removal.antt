@@ -1,9 +1,9 @@
 -- Taking fields out of a head: those that stay move up, one after another.
-use Rattle.std.proofs.Common.{◌≡◌, ℕ, ◌+◌, ◌-◌, ◌<◌, ◌≤◌, ◌⊎◌, inl, inr, Bool, true, false, cond, List, [], ◌∷◌, ◌++◌, length, get_or, take, drop, set, refl, sym, ap, ◌∙◌, append_assoc, arith}
+use Rattle.std.proofs.Common.{◌≡◌, ℕ, ◌+◌, ◌-◌, ◌<◌, ◌≤◌, ◌⊎◌, inl, inr, Bool, true, false, List, [], ◌∷◌, ◌++◌, length, get_or, take, drop, set, refl, sym, ap, ◌∙◌, append_assoc, arith}
 use Rattle.std.specs.Prelude.{filter}
 use Rattle.std.specs.List.{copy_within}
 use Rattle.std.proofs.lemmas.Bool.{cond-true, cond-false}
-use Rattle.std.proofs.lemmas.List.{append-nil, length-append, length-take, length-drop, length-set, take_at, drop_at, drop-drop, drop_more, drop_all, take_more_set, drop-set-lt}
+use Rattle.std.proofs.lemmas.List.{append-nil, length-append, length-take, length-drop, take_at, drop_at, drop-drop, drop_more, drop_all, take_more_set, drop-set-lt}
 use Rattle.mj_head.specs.declared.lengths.Lengths.{Lengths}
 use Rattle.mj_head.specs.Head.{RawField, written}
 use Rattle.mj_head.specs.Layout.{lengths_of, layout, fields_at, IsLaidOut}

@@ -5,8 +5,8 @@ use Rattle.mj_head.specs.declared.lengths.Lengths.{Lengths}
 use Rattle.mj_head.specs.Head.{RawField, written}
 use Rattle.mj_head.specs.Layout.{lengths_of, layout, fields_at, IsLaidOut}
 use Rattle.mj_head.specs.Reading.{with_body}
-use Rattle.mj_head.proofs.Laid.{written-append, length-fields, lengths_same}
-use Rattle.mj_head.proofs.Changes.{around, set_around, length-written-cons, length-written-append, length-with_body}
+use Rattle.mj_head.proofs.Laid.{written-append, lengths_same}
+use Rattle.mj_head.proofs.Changes.{around, set_around, length-written-append, length-with_body}
 
 layout-get_or : (fs : List RawField) (k : ℕ) (l : Lengths) (f : RawField) → k < length fs → get_or (layout fs) k l ≡ lengths_of (get_or fs k f)
 layout-get_or [] k l f lt = absurd (omega arith)

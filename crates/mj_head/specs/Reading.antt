@@ -5,7 +5,7 @@ use Rattle.mj_head.specs.declared.fault.HeadFault.{HeadFault}
 use Rattle.mj_head.specs.declared.fault.HeadFault.TheVariants.{ContinuationFirst, NoColon, BadName, TooLong, Memory}
 use Rattle.mj_head.specs.declared.cursor.Cursor.{Cursor}
 use Rattle.mj_head.specs.declared.lengths.Lengths.{Lengths}
-use Rattle.mj_head.specs.Head.{RawField, lines, content, head_lines, body_place, is_continuation, after_colon, name_of, continued, fields_of, written, form_fault, first_fault}
+use Rattle.mj_head.specs.Head.{RawField, lines, content, head_lines, body_place, is_continuation, after_colon, name_of, fields_of, written, form_fault, first_fault}
 use Rattle.mj_head.specs.Fields.{is_named}
 use Rattle.mj_head.specs.Layout.{lengths_of}
 

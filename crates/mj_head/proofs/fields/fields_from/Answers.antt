@@ -1,4 +1,4 @@
-use Rattle.std.proofs.Common.{◌≡◌, drop, ap, sym, ◌∙◌, arith}
+use Rattle.std.proofs.Common.{drop, ap, sym, ◌∙◌, arith}
 use Rattle.mj_head.proofs.Places.{drop_next, drop_past}
 use Rattle.mj_head.proofs.fields.fields_from.Goals as goal
 

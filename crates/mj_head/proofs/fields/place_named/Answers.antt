@@ -1,5 +1,4 @@
-use Rattle.std.proofs.Common.{◌≡◌, ◌+◌, length, true, false, not, ap, sym, ◌∙◌, arith, rules, refl}
-use Rattle.std.specs.List.{list_all}
+use Rattle.std.proofs.Common.{◌≡◌, length, true, false, not, ap, arith, rules, refl}
 use Rattle.std.proofs.lemmas.Bool.{and_from, not_from_false}
 use Rattle.mj_head.specs.Fields.{is_named}
 use Rattle.mj_head.proofs.Changes.{list_all-append}

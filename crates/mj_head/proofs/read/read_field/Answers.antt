@@ -1,4 +1,4 @@
-use Rattle.std.proofs.Common.{◌≡◌, ◌+◌, ◌∷◌, ◌++◌, [], List, ℕ, length, refl, arith, ap, ◌∙◌, length-append}
+use Rattle.std.proofs.Common.{◌≡◌, ◌∷◌, ◌++◌, [], List, ℕ, length, refl, arith, ap, ◌∙◌, length-append}
 use Rattle.mj_head.specs.Head.{RawField, lines, written, continued}
 use Rattle.mj_head.specs.Reading.{head_at}
 use Rattle.mj_head.proofs.Names.{whole_line}

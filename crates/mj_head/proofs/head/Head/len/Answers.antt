@@ -1,4 +1,4 @@
-use Rattle.std.proofs.Common.{◌≡◌, length, ap, ◌∙◌, sym, rules}
+use Rattle.std.proofs.Common.{rules}
 use Rattle.mj_head.proofs.Laid.{length-fields}
 use Rattle.mj_head.proofs.head.Head.len.Goals as goal
 

@@ -1,4 +1,4 @@
-use Rattle.std.proofs.Common.{◌≡◌, ◌+◌, ◌≤◌, [], ◌∷◌, ◌++◌, length, arith, rules, refl, sym, ap, ◌∙◌, length-append}
+use Rattle.std.proofs.Common.{◌≡◌, ◌+◌, ◌≤◌, [], ◌∷◌, ◌++◌, length, arith, refl, sym, ap, ◌∙◌, length-append}
 use Rattle.mj_head.specs.declared.lengths.Lengths.{Lengths}
 use Rattle.mj_head.specs.Head.{RawField, written}
 use Rattle.mj_head.specs.Layout.{lengths_of, fields_at}

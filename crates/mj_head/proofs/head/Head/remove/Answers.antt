@@ -1,4 +1,4 @@
-use Rattle.std.proofs.Common.{◌≡◌, not, true, ap, ◌∙◌}
+use Rattle.std.proofs.Common.{not, ap, ◌∙◌}
 use Rattle.std.specs.Prelude.{filter}
 use Rattle.mj_head.specs.Head.{RawField}
 use Rattle.mj_head.specs.Fields.{is_named}

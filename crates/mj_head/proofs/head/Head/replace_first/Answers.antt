@@ -1,4 +1,4 @@
-use Rattle.std.proofs.Common.{◌≡◌, ◌∷◌, subst}
+use Rattle.std.proofs.Common.{◌∷◌}
 use Rattle.mj_head.specs.Reading.{NoneIsNamed, IsFirstNamed}
 use Rattle.mj_head.proofs.Changes.{replaced_first_is, replaced_first_none}
 use Rattle.mj_head.proofs.head.Head.replace_first.Goals as goal
