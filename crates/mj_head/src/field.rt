@@ -1,5 +1,5 @@
 //! A field of a head.
-ghost use Rattle.std.specs.Prelude.{◌≡◌, ◌+◌};
+ghost use Rattle.std.specs.Prelude.{◌≡◌};
 ghost use Rattle.mj_terms.specs.Text.{same_text};
 ghost use Rattle.mj_head.specs.Fields.{is_named};
 

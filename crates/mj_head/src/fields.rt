@@ -10,7 +10,7 @@ ghost use Rattle.mj_head.specs.Reading.{NoneIsNamed, IsFirstNamed};
 use crate::field::{Field, is_same_name};
 use crate::lengths::Lengths;
 use crate::walk::Walk;
-use std::alloc::{AllocError, Global};
+use std::alloc::AllocError;
 
 /// The first field of this name.
 pub(crate) fn first_named<'a>(mut fields: Walk<'a>, name: &[u8]) -> Option<Field<'a>>

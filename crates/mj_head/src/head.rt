@@ -1,6 +1,6 @@
 //! A head: a list of fields.
 ghost use Rattle.std.specs.Prelude.{◌≡◌, ◌+◌, ◌<◌, ◌≤◌, ◌==◌, ◌↔◌, [], ◌∷◌, ◌++◌, true, false, not, length, filter, count_by, slice_get, take, drop, IsTrue, Option, Result, IfOk, OnOk, OnErr, List, ℕ};
-ghost use Rattle.std.specs.Option.{option_copied, option_map};
+ghost use Rattle.std.specs.Option.{option_map};
 ghost use Rattle.mj_head.specs.Head.{written, is_head, is_field, is_field_name, head_of};
 ghost use Rattle.mj_head.specs.Reading.{with_body};
 ghost use Rattle.mj_head.specs.Fields.{is_named, unfolded, is_field_value, replaced_first, IsSomeHead};
@@ -63,7 +63,8 @@ impl Head {
         self.lengths.is_empty()
     }
 
-    /// The field at this place, from 0; `None` where there are no more than `place` fields.
+    /// The field at this place, from 0; `None` where there are no more than `place` fields. It goes
+    /// over the fields before it.
     pub fn get(&self, place: usize) -> Option<Field<'_>>
         ensures { result ≡ slice_get self.now place }
     {

@@ -1,5 +1,4 @@
 //! The lengths of a field's parts.
-ghost use Rattle.std.specs.Prelude.{◌≡◌, ◌+◌, ◌<◌, ◌^◌};
 
 /// How long a field's name and its raw body are.
 #[derive(Clone, Copy, Debug)]

@@ -79,14 +79,27 @@ fn unfolds_fields(rt: HostRuntime) -> Result<(), Fail> {
 
 #[test]
 fn replaces_and_writes(rt: HostRuntime) -> Result<(), Fail> {
-    let (mut head, _place) = read_head(rt.alloc(), b"Subject: one\r\n\r\nhello\r\n")?;
+    let (mut head, _place) = read_head(rt.alloc(), b"A: 1\nSubject: one\n two\nB: 2\n\nhello\n")?;
     let name = b"subject".as_slice();
     let value = b"[x] one".as_slice();
     assert!(rt; is_field_name(name));
     assert!(rt; is_field_value(value));
     assert!(rt; head.replace_first(name, value)?);
     let text = write_head(rt.alloc(), &head)?;
-    assert!(rt; text.as_slice() == b"Subject: [x] one\r\n".as_slice());
+    assert!(rt; text.as_slice() == b"A: 1\r\nSubject: [x] one\r\nB: 2\r\n".as_slice());
+    Ok(())
+}
+
+#[test]
+fn takes_out_fields(rt: HostRuntime) -> Result<(), Fail> {
+    let (mut head, _place) = read_head(rt.alloc(), b"X : 1\n 2\nA: 3\r\nx: 4\r\nB:5\r\n\r\n")?;
+    let first = head.get(0).ok_or("no field")?;
+    assert!(rt; first.name() == b"X".as_slice());
+    assert!(rt; first.body() == b" 1\r\n 2".as_slice());
+    head.remove(b"x");
+    let text = write_head(rt.alloc(), &head)?;
+    assert!(rt; text.as_slice() == b"A: 3\r\nB:5\r\n".as_slice());
+    assert!(rt; head.get(2).is_none());
     Ok(())
 }
 
