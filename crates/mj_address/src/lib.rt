@@ -16,6 +16,7 @@ mod recipients;
 pub use address::Address;
 pub use domain::Domain;
 pub use fault::AddressFault;
+pub use forms::judge_local;
 pub use laws::{read_is_spelled, spelled_is_read};
 pub use recipients::Recipients;
 

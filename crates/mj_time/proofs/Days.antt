@@ -10,7 +10,7 @@ use Rattle.mj_time.specs.declared.moments.Fields.{Fields}
 use Rattle.mj_time.specs.Fields.{HasFewDigits}
 use Rattle.mj_time.specs.Moment.{is_date, is_in_range}
 
-year_from_epoch : (y : ℕ) (later : Bool) → ltb 1970 y ≡ later → 1970 ≤ y → 4_371_953 ≤ day_count (pos y) 1 1
+pub year_from_epoch : (y : ℕ) (later : Bool) → ltb 1970 y ≡ later → 1970 ≤ y → 4_371_953 ≤ day_count (pos y) 1 1
 year_from_epoch y true e from =
     let lt : 1970 < y = grind (arith, nat_tests) in
     omega (arith, day_count-epoch, day_count-later_year (pos 1970) (pos y) (omega (arith, signed_arith)) (omega (arith, signed_arith)))
@@ -34,7 +34,7 @@ not_negative d year month day h from =
     subst (λ e. pos 0 ≤ℤ e) (sym (epoch_day_is d year month day h)) (from_epoch year month day from first)
 
 -- the parts of a date, as a test and as a fact
-test_parts : (m d days : ℕ) → (nat_le 1 m && nat_le m 12 && nat_le 1 d && nat_le d days) ≡ true → (1 ≤ m) × (m ≤ 12) × (1 ≤ d) × (d ≤ days)
+pub test_parts : (m d days : ℕ) → (nat_le 1 m && nat_le m 12 && nat_le 1 d && nat_le d days) ≡ true → (1 ≤ m) × (m ≤ 12) × (1 ≤ d) × (d ≤ days)
 test_parts m d days e = (grind (arith, nat_tests), grind (arith, nat_tests), grind (arith, nat_tests), grind (arith, nat_tests))
 
 parts_test : (m d days : ℕ) → 1 ≤ m → m ≤ 12 → 1 ≤ d → d ≤ days → (nat_le 1 m && nat_le m 12 && nat_le 1 d && nat_le d days) ≡ true

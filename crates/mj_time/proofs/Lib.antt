@@ -1,3 +1,4 @@
+pub mod Bounds
 pub mod Civil
 pub mod DateLines
 pub mod Days

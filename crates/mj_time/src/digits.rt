@@ -39,7 +39,7 @@ fn value_of(text: &[u8]) -> u32
 }
 
 /// The number that 1 to 9 decimal digits spell, and None for any other text.
-pub(crate) fn numeral(text: &[u8]) -> Option<u32>
+pub fn numeral(text: &[u8]) -> Option<u32>
     ensures value { result ≡ numeral_of text.now }
     ensures small { IfSome result (λ n. n < 1_000_000_000) }
     ensures by_digits { IfSome result (λ n. n < 10 ^ length text.now) }

@@ -11,5 +11,6 @@ mod tests;
 mod texts;
 
 pub use dates::date_text;
+pub use digits::numeral;
 pub use moments::{MomentFault, read_moment};
 pub use schedules::{Schedule, ScheduleFault};

@@ -120,7 +120,7 @@ fn milliseconds_at(date: Date, fields: &Fields) -> u64
     requires time { IsTrue (is_time fields.now) }
     requires late { IsTrue (is_in_range fields.now) }
     ensures value { result ≡ milliseconds_at fields.now }
-    ensures bound { result < 253_402_300_800_000 }
+    ensures bound { result < 4_133_980_800_000 }
 {
     let day = day_number(date);
     let second = fields.hour * 3_600 + fields.minute * 60 + fields.second;
@@ -135,7 +135,8 @@ fn milliseconds_at(date: Date, fields: &Fields) -> u64
 pub fn read_moment(text: &[u8]) -> Result<u64, MomentFault>
     // The moment, or why there is none, by what the text says alone.
     ensures exact { result ≡ moment_of text.now }
-    ensures bound { IfOk result (λ moment. moment < 253_402_300_800_000) }
+    // The year 2101 begins then.
+    ensures bound { IfOk result (λ moment. moment < 4_133_980_800_000) }
 {
     let fields = read_fields(text).ok_or(MomentFault::Bad)?;
     let date = date_of(&fields).ok_or(MomentFault::Bad)?;

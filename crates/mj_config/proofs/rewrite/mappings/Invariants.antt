@@ -1,0 +1,9 @@
+use Rattle.std.proofs.Common.{◌≡◌, drop, map}
+use Rattle.toml.specs.View.{table_view}
+use Rattle.mj_config.specs.Values.{each}
+use Rattle.mj_config.specs.Walk.{mapping_of}
+use Rattle.mj_config.proofs.Ahead.{ahead}
+use Rattle.mj_config.proofs.rewrite.mappings.Given as goal
+
+abbrev pub invariant-loop-row : goal.invariant-loop-row
+invariant-loop-row l = each mapping_of (map (λ t. table_view t.now) l.rows) ≡ ahead l.mappings (each mapping_of (map (λ t. table_view t.now) (drop l.row-index l.rows)))

@@ -1,0 +1,10 @@
+pub mod Classes
+pub mod Composites
+pub mod Faults
+pub mod Mailets
+pub mod Matchers
+pub mod Names
+pub mod Rest
+pub mod Seen
+pub mod Values
+pub mod Walk

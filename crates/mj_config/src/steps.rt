@@ -1,0 +1,145 @@
+//! The steps of a processor: a matcher, a mailet, and where a mail goes where one of them fails.
+ghost use Rattle.std.specs.Prelude.{◌≡◌, ◌≤◌, [], ◌∷◌, ◌++◌, length, map, option_map, IfOk, OnOk};
+ghost use Rattle.toml.specs.View.{view, table_view};
+ghost use Rattle.mj_config.specs.Values.{Gives, optional, target};
+ghost use Rattle.mj_config.specs.Seen.{IsNew, deliveries_of};
+ghost use Rattle.mj_config.specs.Walk.{Answers, deliveries, located, steps_from, default_mailet_route, default_match_route, mailet_route, mailet_route_of, match_route, match_route_of, step_of};
+
+use crate::fault::{PlanFault, PlanKind, Refusal, fault_at};
+use crate::mailets::mailet_of;
+use crate::matchers::matcher;
+use crate::names::Names;
+use crate::values::{is, required, text, value_at};
+use mj_fields::{Bytes, Items, Memory};
+use mj_plan::{MailetKind, MailetRoute, MatchRoute, Step};
+use std::alloc::Global;
+use toml::{Table, Value};
+
+/// The steps of the processor of this number. The names of their remote deliveries are taken then.
+#[tactic(auto, using(crate::proofs::InTurn::deliveries_more))]
+pub(crate) fn steps(
+    alloc: Global,
+    names: &Names,
+    taken: &mut Names,
+    processor: u32,
+    tables: &[&Table],
+) -> Result<Items<Step>, PlanFault>
+    requires { length tables.now ≤ 200 }
+    ensures exact { Answers result (steps_from names.now taken.old processor 1 (map (λ t. table_view t.now) tables.now)) }
+    ensures taken { IfOk result (λ steps. taken.new ≡ taken.old ++ deliveries steps) }
+{
+    let mut steps = Items::new(alloc);
+    for table in tables {
+        let number = steps.len() as u32 + 1;
+        steps.push(step_at(alloc, names, taken, processor, number, table)?)?;
+    }
+    Ok(steps)
+}
+
+/// The step of this number. The name of its remote delivery is taken then.
+fn step_at(
+    alloc: Global,
+    names: &Names,
+    taken: &mut Names,
+    processor: u32,
+    number: u32,
+    table: &Table,
+) -> Result<Step, PlanFault>
+    ensures exact { Answers result (located processor number (step_of names.now taken.old (table_view table.now))) }
+    ensures taken { IfOk result (λ step. taken.new ≡ taken.old ++ deliveries (step ∷ [])) }
+{
+    match step(alloc, names, taken, table) {
+        Ok(step) => {
+            take_delivery(alloc, taken, &step.mailet)?;
+            Ok(step)
+        }
+        Err(refusal) => Err(fault_at(refusal, processor, number)),
+    }
+}
+
+/// Adds the name of a remote delivery to those that are taken.
+fn take_delivery(alloc: Global, taken: &mut Names, mailet: &MailetKind) -> Result<(), Memory>
+    requires { IsNew taken.old mailet.now }
+    ensures { OnOk result (taken.new ≡ taken.old ++ deliveries_of mailet.now) }
+{
+    match mailet {
+        MailetKind::RemoteDelivery { outgoing, .. } => taken.add(alloc, outgoing.as_slice()),
+        _ => Ok(()),
+    }
+}
+
+/// The step of a table, where these processors are there and these names of remote deliveries are taken.
+fn step(alloc: Global, names: &Names, taken: &Names, table: &Table) -> Result<Step, Refusal>
+    ensures exact { Gives result (step_of names.now taken.now (table_view table.now)) }
+    ensures new { IfOk result (λ step. IsNew taken.now step.mailet) }
+{
+    let matcher = matcher(alloc, required(table, "match")?)?;
+    let class = text(required(table, "class")?)?;
+    let mailet = mailet_of(alloc, names, taken, class, table)?;
+    let on_match = match_route_or_error(alloc, names, value_at(table, "onMatchException"))?;
+    let on_mailet = mailet_route_or_error(alloc, names, value_at(table, "onMailetException"))?;
+    Ok(Step {
+        matcher,
+        on_match,
+        mailet,
+        on_mailet,
+    })
+}
+
+fn match_route_or_error(
+    alloc: Global,
+    names: &Names,
+    value: Option<&Value>,
+) -> Result<MatchRoute, Refusal>
+    ensures { Gives result (optional default_match_route (match_route names.now) (option_map (λ v. view v.now) value.entry)) }
+{
+    match value {
+        Some(value) => match_route(alloc, names, text(value)?),
+        None => Ok(MatchRoute::To(Bytes::from_slice(alloc, b"error")?)),
+    }
+}
+
+fn match_route(alloc: Global, names: &Names, text: &[u8]) -> Result<MatchRoute, Refusal>
+    ensures { Gives result (match_route_of names.now text.now) }
+{
+    if is(text, "nomatch") {
+        Ok(MatchRoute::NoMatch)
+    } else if is(text, "matchall") {
+        Ok(MatchRoute::MatchAll)
+    } else {
+        Ok(MatchRoute::To(target(alloc, names, text)?))
+    }
+}
+
+fn mailet_route_or_error(
+    alloc: Global,
+    names: &Names,
+    value: Option<&Value>,
+) -> Result<MailetRoute, Refusal>
+    ensures { Gives result (optional default_mailet_route (mailet_route names.now) (option_map (λ v. view v.now) value.entry)) }
+{
+    match value {
+        Some(value) => mailet_route(alloc, names, text(value)?),
+        None => Ok(MailetRoute::To(Bytes::from_slice(alloc, b"error")?)),
+    }
+}
+
+fn mailet_route(alloc: Global, names: &Names, text: &[u8]) -> Result<MailetRoute, Refusal>
+    ensures { Gives result (mailet_route_of names.now text.now) }
+{
+    if is(text, "ignore") {
+        Ok(MailetRoute::Ignore)
+    } else {
+        Ok(MailetRoute::To(target(alloc, names, text)?))
+    }
+}
+
+/// The name of a processor that is there, or `ghost`.
+pub(crate) fn target(alloc: Global, names: &Names, text: &[u8]) -> Result<Bytes, Refusal>
+    ensures { Gives result (target names.now text.now) }
+{
+    if !is(text, "ghost") && !names.contains(text) {
+        return Err(Refusal::Kind(PlanKind::UnknownProcessor));
+    }
+    Ok(Bytes::from_slice(alloc, text)?)
+}

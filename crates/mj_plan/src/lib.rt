@@ -1,0 +1,20 @@
+//! The plan of a mail service: what its configuration says, with every condition and mailet that it can name.
+#![tactic(auto)]
+
+mod condition;
+mod forms;
+mod mailet;
+mod matcher;
+mod plan;
+
+pub use condition::{Condition, Relation};
+pub use forms::{
+    GHOST, is_attribute_name, is_attribute_value, is_line, is_processor_name, is_reply_code,
+    is_repository,
+};
+pub use mailet::{MailetKind, Named};
+pub use matcher::MatchExpr;
+pub use plan::{MailetRoute, Mapping, MatchRoute, Plan, Processor, Step};
+
+#[cfg(test)]
+mod tests;
