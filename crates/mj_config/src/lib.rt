@@ -25,3 +25,6 @@ mod words;
 
 pub use fault::{PlanFault, PlanKind};
 pub use plan::{MAX_CONFIGURATION, read_plan};
+
+#[cfg(test)]
+mod tests;
