@@ -1,5 +1,5 @@
 -- What a change of the fields does to the head.
-use Rattle.std.proofs.Common.{◌≡◌, ℕ, ◌+◌, ◌<◌, ◌≤◌, Bool, true, false, not, ◌&&◌, ◌||◌, cond, eqb, leb, add-one, List, [], ◌∷◌, ◌++◌, length, get_or, take, drop, set, refl, sym, ap, ◌∙◌, arith}
+use Rattle.std.proofs.Common.{◌≡◌, ℕ, ◌+◌, ◌<◌, ◌≤◌, Bool, true, false, not, ◌&&◌, ◌||◌, cond, eqb, leb, add-one, List, [], ◌∷◌, ◌++◌, length, get_or, take, drop, set, refl, sym, ap, ◌∙◌, append_assoc, arith}
 use Rattle.std.specs.Prelude.{filter}
 use Rattle.std.specs.List.{list_all}
 use Rattle.std.proofs.lemmas.Bool.{and_parts, and_from, leb-true, le-leb, cond-true, cond-false, cond_both, not-true, or_parts}
@@ -7,7 +7,26 @@ use Rattle.std.proofs.lemmas.List.{length-append, take-append-drop, drop_more, s
 use Rattle.mj_head.specs.Head.{RawField, written, is_field, is_head, is_field_name, is_raw_body, is_folded, begins_blank}
 use Rattle.mj_head.specs.Fields.{is_named, is_field_value, replaced_first}
 use Rattle.mj_head.specs.Reading.{with_body, IsFirstNamed}
-use Rattle.mj_head.proofs.Whole.{length-written_push}
+
+-- ---- the written form
+
+pub length-written-cons : (f : RawField) (fs : List RawField) → length (written (f ∷ fs)) ≡ length f.0 + length f.1 + 3 + length (written fs)
+length-written-cons f fs = omega (arith, length-append f.0 ((58 ∷ f.1) ++ ((13 ∷ 10 ∷ []) ++ written fs)), length-append f.1 ((13 ∷ 10 ∷ []) ++ written fs))
+
+pub written-append : (fs gs : List RawField) → written (fs ++ gs) ≡ written fs ++ written gs
+written-append [] gs = refl
+written-append (f ∷ fs) gs =
+    ap (λ (t : List ℕ). f.0 ++ ((58 ∷ f.1) ++ ((13 ∷ 10 ∷ []) ++ t))) (written-append fs gs)
+    ∙ ap (λ (t : List ℕ). f.0 ++ t) (sym (append_assoc (58 ∷ f.1) ((13 ∷ 10 ∷ []) ++ written fs) (written gs)))
+    ∙ sym (append_assoc f.0 ((58 ∷ f.1) ++ ((13 ∷ 10 ∷ []) ++ written fs)) (written gs))
+
+pub length-written-append : (fs gs : List RawField) → length (written (fs ++ gs)) ≡ length (written fs) + length (written gs)
+length-written-append fs gs = ap length (written-append fs gs) ∙ length-append (written fs) (written gs)
+
+pub length-written_push : (fs : List RawField) (f : RawField) → length (written (fs ++ f ∷ [])) ≡ length (written fs) + (length f.0 + length f.1 + 3)
+length-written_push fs f = omega (arith, length-written-append fs (f ∷ []), length-written-cons f [])
+
+-- ---- heads
 
 pub head_fields : (fs : List RawField) → is_head fs ≡ true → list_all is_field fs ≡ true
 head_fields fs h = (and_parts (list_all is_field fs) (leb (length (written fs)) 65536) h).0
@@ -45,9 +64,6 @@ value_formed name value n v = and_from (is_field_name name) (is_raw_body (32 ∷
 
 -- ---- fewer fields
 
-pub length-written-cons : (f : RawField) (fs : List RawField) → length (written (f ∷ fs)) ≡ length f.0 + length f.1 + 3 + length (written fs)
-length-written-cons f fs = omega (arith, length-append f.0 ((58 ∷ f.1) ++ ((13 ∷ 10 ∷ []) ++ written fs)), length-append f.1 ((13 ∷ 10 ∷ []) ++ written fs))
-
 pub filter-short : (p : RawField → Bool) (fs : List RawField) → length (written (filter p fs)) ≤ length (written fs)
 filter-short p [] = omega arith
 filter-short p (f ∷ fs) =
@@ -75,10 +91,6 @@ pub head_few : (fs : List RawField) → is_head fs ≡ true → length fs ≤ 65
 head_few fs h = omega (arith, head_short fs h, length-le-written fs)
 
 -- ---- another raw body
-
-pub length-written-append : (fs gs : List RawField) → length (written (fs ++ gs)) ≡ length (written fs) + length (written gs)
-length-written-append [] gs = omega arith
-length-written-append (f ∷ fs) gs = omega (arith, length-written-cons f (fs ++ gs), length-written-cons f fs, length-written-append fs gs)
 
 -- the fields around a place
 pub around : (fs : List RawField) (k : ℕ) (d : RawField) → k < length fs → fs ≡ take k fs ++ get_or fs k d ∷ drop (k + 1) fs

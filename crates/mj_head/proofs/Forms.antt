@@ -67,7 +67,7 @@ Lacks-after_colon [] h = refl
 Lacks-after_colon (b ∷ line) h =
     cond_both (eqb b 58) line (after_colon line) (λ (t : List ℕ). Lacks 10 t) (λ _. Lacks-rest 10 b line h) (λ _. Lacks-after_colon line (Lacks-rest 10 b line h))
 
-or_none : (a b : Option HeadFault) → or_else a b ≡ None → (a ≡ None) × (b ≡ None)
+pub or_none : (a b : Option HeadFault) → or_else a b ≡ None → (a ≡ None) × (b ≡ None)
 or_none None b e = (refl, e)
 or_none (Some fault) b e = absurd cc
 
@@ -95,15 +95,16 @@ fields_formed limit k w (line ∷ ls) e h =
     (and_from (is_field_name (name_of line)) (is_raw_body body) (form_named k line form f) (folded_over 58 (after_colon line) (continued ls) (Lacks-after_colon line p.0) (folded_rest ls p.1)))
     rest)
 
+pub some_none : (x : HeadFault) → Some x ≡ None → ⊥
+some_none x h = cc
+
 -- lines without a fault are written in at most `limit` bytes
 long_none : (limit n : ℕ) (fault : HeadFault) → cond (ltb limit n) (Some fault) None ≡ None → n ≤ limit
 long_none limit n fault e =
     elim (cases_Bool (ltb limit n)) [
       | inl long ↦ absurd (some_none fault (sym (cond-true (ltb limit n) (Some fault) None long) ∙ e))
       | inr short ↦ ltb-false limit n short
-    ] where
-      some_none : (x : HeadFault) → Some x ≡ None → ⊥
-      some_none x h = cc
+    ]
 
 pub fields_short : (limit k w : ℕ) (ls : List (List ℕ)) → w ≤ limit → first_fault limit k w ls ≡ None → w + length (continued ls) + length (written (fields_of ls)) ≤ limit
 fields_short limit k w [] le e = omega arith

@@ -1,4 +1,4 @@
--- What a head's written form and an empty line are read as, whatever follows.
+-- What a head's written form is read as: alone, and with an empty line behind it, whatever follows.
 use Rattle.std.proofs.Common.{get_or, take, drop, ◌≡◌, ℕ, suc, ◌+◌, ◌<◌, ◌≤◌, Bool, true, false, not, ◌&&◌, cond, eqb, leb, inl, inr, List, [], ◌∷◌, ◌++◌, length, Option, Some, None, Ok, refl, sym, ap, subst, ◌∙◌, append_assoc, arith}
 use Rattle.std.specs.List.{list_all, list_any}
 use Rattle.std.proofs.lemmas.Bool.{cond-true, cond-false, cases_Bool, and_parts, or_from, and_from, not_from_false, eqb-true, leb-true, not-true, ne_eqb, false≢true}
@@ -6,15 +6,14 @@ use Rattle.std.proofs.lemmas.List.{length-append, append-nil, take-append-drop, 
 use Rattle.mj_terms.specs.Text.{is_blank, trim_back}
 use Rattle.mj_head.specs.declared.fault.HeadFault.{HeadFault}
 use Rattle.mj_head.specs.declared.fault.HeadFault.TheVariants.{ContinuationFirst, NoColon, BadName}
-use Rattle.mj_head.specs.Head.{RawField, lines, lengthened, content, is_line_end, head_lines, body_place, is_continuation, begins_blank, after_colon, name_of, is_name_byte, is_field_name, is_folded, is_raw_body, is_field, is_head, continued, fields_of, written, added_by, form_fault, first_fault, unless, head_of}
+use Rattle.mj_head.specs.Head.{RawField, lines, lengthened, content, is_line_end, head_lines, body_place, is_continuation, begins_blank, after_colon, name_of, is_name_byte, is_field_name, is_folded, is_raw_body, is_field, is_head, continued, fields_of, fields_in, written, IsWritten, added_by, form_fault, first_fault, unless, head_of}
 use Rattle.mj_head.specs.Fields.{IsSomeHead}
 use Rattle.mj_head.specs.Reading.{begins_continued, BeginsField}
 use Rattle.mj_head.proofs.Lines.{Lacks, Lacks-cons, Lacks-first, Lacks-rest, cases_last}
 use Rattle.mj_head.proofs.Names.{has_colon, before_colon_at, after_colon_at, trim_back_at}
 use Rattle.mj_head.proofs.Steps.{begins, no_end, no_zero, form_continued, added_continued, is_some_continued, fault_step}
 use Rattle.mj_head.proofs.Forms.{lines_lack, fields_formed, fields_short}
-use Rattle.mj_head.proofs.Whole.{length-written_push}
-use Rattle.mj_head.proofs.Changes.{head_fields, head_short, is_head_from, list_all_parts, length-written-cons}
+use Rattle.mj_head.proofs.Changes.{head_fields, head_short, is_head_from, list_all_parts, length-written-cons, written-append, length-written_push, is_head_push}
 
 -- lines of a raw body, CRLF and what follows
 record Shows (body tail : List ℕ) (ls : List (List ℕ)) : Type 0 where
@@ -59,7 +58,7 @@ shows_byte b body tail text e h =
       fault = λ limit k w w' later same le none. h.fault limit k w w' later (omega (arith, len)) le none;
     }
 
-blank_front : (body tail : List ℕ) → begins_blank body ≡ true → begins_blank (body ++ tail) ≡ true
+pub blank_front : (body tail : List ℕ) → begins_blank body ≡ true → begins_blank (body ++ tail) ≡ true
 blank_front [] tail e = absurd (false≢true e)
 blank_front (b ∷ body) tail e = e
 
@@ -122,19 +121,19 @@ shows before (b ∷ c ∷ body) tail f s =
 
 -- ---- the name before it
 
-name_byte_parts : (b : ℕ) → is_name_byte b ≡ true → (33 ≤ b) × (eqb b 58 ≡ false)
+pub name_byte_parts : (b : ℕ) → is_name_byte b ≡ true → (33 ≤ b) × (eqb b 58 ≡ false)
 name_byte_parts b h =
     let outer = and_parts (leb 33 b && leb b 126) (not (eqb b 58)) h in
     let low = and_parts (leb 33 b) (leb b 126) outer.0 in
     (leb-true 33 b low.0, not-true (eqb b 58) outer.1)
 
-name_lacks : (c : ℕ) (name : List ℕ) → ((b : ℕ) → is_name_byte b ≡ true → eqb b c ≡ false) → list_all is_name_byte name ≡ true → Lacks c name
+pub name_lacks : (c : ℕ) (name : List ℕ) → ((b : ℕ) → is_name_byte b ≡ true → eqb b c ≡ false) → list_all is_name_byte name ≡ true → Lacks c name
 name_lacks c [] each h = refl
 name_lacks c (b ∷ name) each h =
     let parts = and_parts (is_name_byte b) (list_all is_name_byte name) h in
     Lacks-cons c b name (each b parts.0) (name_lacks c name each parts.1)
 
-no_lf_byte : (b : ℕ) → is_name_byte b ≡ true → eqb b 10 ≡ false
+pub no_lf_byte : (b : ℕ) → is_name_byte b ≡ true → eqb b 10 ≡ false
 no_lf_byte b h = ne_eqb b 10 (λ e. absurd (omega (arith, (name_byte_parts b h).0)))
 
 not_blank_byte : (b : ℕ) → is_name_byte b ≡ true → is_blank b ≡ false
@@ -217,17 +216,20 @@ continued_none (line ∷ ls) e =
           ∙ cond-false (is_continuation (content line)) ((13 ∷ 10 ∷ content line) ++ continued (head_lines ls)) [] e
     ]
 
--- what the text is read as
-record Reads (fs : List RawField) (text : List ℕ) : Type 0 where
-  fields : fields_of (head_lines (lines text)) ≡ fs
-  place : body_place (lines text) ≡ length (written fs) + 2
+-- what the text is read as, where so many bytes of an empty line stand behind its fields
+record Reads (fs : List RawField) (over : ℕ) (text : List ℕ) : Type 0 where
+  fields : fields_in text ≡ fs
+  place : body_place (lines text) ≡ length (written fs) + over
   begins : begins_continued (lines text) ≡ false
   fault : (limit k w : ℕ) → 0 < k → w + length (written fs) ≤ limit → first_fault limit k w (head_lines (lines text)) ≡ None
 
-reads_none : (tail : List ℕ) → Reads [] (13 ∷ 10 ∷ tail)
-reads_none tail = record { fields = refl; place = refl; begins = refl; fault = λ limit k w some le. refl }
+reads_none : Reads [] 0 []
+reads_none = record { fields = refl; place = refl; begins = refl; fault = λ limit k w some le. refl }
 
-some_name : (name value : List ℕ) → eqb (length (name ++ 58 ∷ value)) 0 ≡ false
+reads_empty : (tail : List ℕ) → Reads [] 2 (13 ∷ 10 ∷ tail)
+reads_empty tail = record { fields = refl; place = refl; begins = refl; fault = λ limit k w some le. refl }
+
+pub some_name : (name value : List ℕ) → eqb (length (name ++ 58 ∷ value)) 0 ≡ false
 some_name [] value = no_zero (length value)
 some_name (b ∷ name) value = no_zero (length (name ++ 58 ∷ value))
 
@@ -240,8 +242,8 @@ folded_starts (b ∷ body) h =
       | inr other ↦ other
     ]
 
-reads_field : (name body : List ℕ) (fs : List RawField) (tail : List ℕ) → is_field_name name ≡ true → is_raw_body body ≡ true → Reads fs tail → Reads ((name, body) ∷ fs) (name ++ 58 ∷ (body ++ 13 ∷ 10 ∷ tail))
-reads_field name body fs tail n b h =
+reads_field : (name body : List ℕ) (fs : List RawField) (over : ℕ) (tail : List ℕ) → is_field_name name ≡ true → is_raw_body body ≡ true → Reads fs over tail → Reads ((name, body) ∷ fs) over (name ++ 58 ∷ (body ++ 13 ∷ 10 ∷ tail))
+reads_field name body fs over tail n b h =
     let text : List ℕ = body ++ 13 ∷ 10 ∷ tail in
     let s = shows 58 body tail b (folded_starts body b) in
     let value : List ℕ = content s.whole in
@@ -275,21 +277,47 @@ reads_field name body fs tail n b h =
           ∙ s.fault limit (k + 1) (w + added_by line) w' (omega arith) (omega (arith, l.added)) (omega (arith, len, le)) (λ j later. h.fault limit j w' (omega arith) (omega (arith, len, le)));
     }
 
-reads : (fs : List RawField) → list_all is_field fs ≡ true → (tail : List ℕ) → Reads fs (written fs ++ 13 ∷ 10 ∷ tail)
-reads [] h tail = reads_none tail
-reads (f ∷ fs) h tail =
+reads : (fs : List RawField) → list_all is_field fs ≡ true → (over : ℕ) (rest : List ℕ) → Reads [] over rest → Reads fs over (written fs ++ rest)
+reads [] h over rest r = r
+reads (f ∷ fs) h over rest r =
     let parts = and_parts (is_field f) (list_all is_field fs) h in
     let formed = and_parts (is_field_name f.0) (is_raw_body f.1) parts.0 in
-    let rest : List ℕ = 13 ∷ 10 ∷ tail in
     let regrouped : written (f ∷ fs) ++ rest ≡ f.0 ++ 58 ∷ (f.1 ++ 13 ∷ 10 ∷ (written fs ++ rest)) =
     append_assoc f.0 (58 ∷ (f.1 ++ 13 ∷ 10 ∷ written fs)) rest ∙ ap (λ (t : List ℕ). f.0 ++ 58 ∷ t) (append_assoc f.1 (13 ∷ 10 ∷ written fs) rest) in
-    subst (Reads (f ∷ fs)) (sym regrouped) (reads_field f.0 f.1 fs (written fs ++ rest) formed.0 formed.1 (reads fs parts.1 tail))
+    subst (Reads (f ∷ fs) over) (sym regrouped) (reads_field f.0 f.1 fs over (written fs ++ rest) formed.0 formed.1 (reads fs parts.1 over rest r))
+
+-- the fields of a written form are those that were written
+pub fields_in-written : (fs : List RawField) → list_all is_field fs ≡ true → fields_in (written fs) ≡ fs
+fields_in-written fs h = ap fields_in (sym (append-nil (written fs))) ∙ (reads fs h 0 [] reads_none).fields
+
+-- a written form begins with no blank
+pub begins-written : (fs : List RawField) → list_all is_field fs ≡ true → begins_blank (written fs) ≡ false
+begins-written fs h =
+    begins (written fs) ∙ ap (λ (t : List ℕ). begins_continued (lines t)) (sym (append-nil (written fs))) ∙ (reads fs h 0 [] reads_none).begins
+
+pub is_written : (text : List ℕ) (fs : List RawField) → text ≡ written fs → list_all is_field fs ≡ true → (fields_in text ≡ fs) × IsWritten text
+is_written text fs e h =
+    let fields : fields_in text ≡ fs = ap fields_in e ∙ fields_in-written fs h in
+    (fields, record { same = ap written fields ∙ sym e; formed = ap (list_all is_field) fields ∙ h })
+
+-- a text that is the written form of a head has this head
+pub is_kept : (text : List ℕ) (fs : List RawField) → text ≡ written fs → is_head fs ≡ true → (fields_in text ≡ fs) × ((written (fields_in text) ≡ text) × (is_head (fields_in text) ≡ true))
+is_kept text fs e h =
+    let w = is_written text fs e (head_fields fs h) in
+    (w.0, (w.1.same, ap is_head w.0 ∙ h))
+
+-- so has the text with the written form of one more field at the end
+pub is_kept_push : (text new : List ℕ) (f : RawField) → written (fields_in text) ≡ text → is_head (fields_in text) ≡ true → new ≡ text ++ written (f ∷ []) → is_field f ≡ true → length (written (fields_in text)) + (length f.0 + length f.1 + 3) ≤ 65536 → (fields_in new ≡ fields_in text ++ f ∷ []) × ((written (fields_in new) ≡ new) × (is_head (fields_in new) ≡ true))
+is_kept_push text new f same h e formed short =
+    is_kept new (fields_in text ++ f ∷ [])
+    (e ∙ ap (λ (t : List ℕ). t ++ written (f ∷ [])) (sym same) ∙ sym (written-append (fields_in text) (f ∷ [])))
+    (is_head_push (fields_in text) f h formed short)
 
 -- a written head and an empty line are read as that head, whatever follows
 pub read_again : (fs : List RawField) → is_head fs ≡ true → (tail : List ℕ) → head_of (written fs ++ 13 ∷ 10 ∷ tail) ≡ Ok (fs, length (written fs) + 2)
 read_again fs h tail =
     let text : List ℕ = written fs ++ 13 ∷ 10 ∷ tail in
-    let r = reads fs (head_fields fs h) tail in
+    let r = reads fs (head_fields fs h) 2 (13 ∷ 10 ∷ tail) (reads_empty tail) in
     let head = head_lines (lines text) in
     ap (λ (o : Option HeadFault). unless o (fields_of head, body_place (lines text))) (r.fault 65536 1 0 (omega arith) (omega (arith, head_short fs h)))
     ∙ ap (λ (gs : List RawField). unless None (gs, body_place (lines text))) r.fields

@@ -2,10 +2,14 @@ pub mod Lines
 pub mod Names
 pub mod Steps
 pub mod Forms
-pub mod Laid
 pub mod Whole
 pub mod Changes
 pub mod Law
+pub mod PlainRead
+pub mod PlainBits
+pub mod PlainLines
+pub mod PlainCount
+pub mod Walking
 pub mod Removal
 pub mod Replacing
 pub mod Places

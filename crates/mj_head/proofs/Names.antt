@@ -98,7 +98,7 @@ name_value-lt line h = omega (arith, trim_back-le (before_colon line), before_af
 
 -- ---- a line that is its name, the colon and what follows it
 
-around_colon : (line : List ℕ) → list_any (λ b. eqb b 58) line ≡ true → line ≡ before_colon line ++ 58 ∷ after_colon line
+pub around_colon : (line : List ℕ) → list_any (λ b. eqb b 58) line ≡ true → line ≡ before_colon line ++ 58 ∷ after_colon line
 around_colon [] h = absurd (false≢true h)
 around_colon (b ∷ line) h =
     elim (cases_Bool (eqb b 58)) [

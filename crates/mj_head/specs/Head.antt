@@ -80,6 +80,10 @@ abbrev pub fields_of : List (List ℕ) → List RawField
 fields_of [] = []
 fields_of (line ∷ rest) = if is_continuation line then fields_of rest else (name_of line, after_colon line ++ continued rest) ∷ fields_of rest
 
+-- the fields of the head at the front of a text
+abbrev pub fields_in : List ℕ → List RawField
+fields_in text = fields_of (head_lines (lines text))
+
 -- the written form: name, colon, raw body and CRLF of each field
 abbrev pub written : List RawField → List ℕ
 written [] = []
@@ -157,3 +161,8 @@ is_field field = is_field_name field.0 && is_raw_body field.1
 -- a head: each field has its form, and the written form has at most 65,536 bytes
 abbrev pub is_head : List RawField → Bool
 is_head fields = list_all is_field fields && nat_le (length (written fields)) 65536
+
+-- the text is the written form of fields, each of which has its form
+pub record IsWritten (text : List ℕ) : Type 0 where
+  pub same : written (fields_in text) ≡ text
+  pub formed : list_all is_field (fields_in text) ≡ true

@@ -1,5 +1,5 @@
 //! A place between two lines of a head.
-ghost use Rattle.std.specs.Prelude.{◌≡◌, ◌+◌, ◌*◌, ◌<◌, ◌≤◌, IfOk, IfErr};
+ghost use Rattle.std.specs.Prelude.{◌≡◌, ◌+◌, ◌*◌, ◌<◌, ◌≤◌, length, drop, IfOk, IfErr};
 
 use crate::fault::HeadFault;
 
@@ -52,5 +52,21 @@ impl<'a> Cursor<'a> {
             line: self.line + 1,
             written: self.written + added,
         })
+    }
+
+    /// The place behind so many bytes, which are so many lines and are written as they stand.
+    pub(crate) fn past(self, len: usize, count: u32) -> Cursor<'a>
+        requires within { len ≤ length self.rest.now }
+        requires short { self.written + len ≤ 65536 }
+        requires counted { 3 * count ≤ len }
+        ensures rest { result.rest.now ≡ drop len self.entry.rest.now }
+        ensures line { result.line ≡ self.entry.line + count }
+        ensures written { result.written ≡ self.entry.written + len }
+    {
+        Cursor {
+            rest: &self.rest[len..],
+            line: self.line + count,
+            written: self.written + len,
+        }
     }
 }

@@ -2,13 +2,11 @@
 ghost use Rattle.std.specs.Prelude.{◌≡◌, ◌+◌, ◌<◌, ◌≤◌, [], ◌∷◌, ◌++◌, length, not, filter, count_by, drop, OnOk, OnErr, MatchOption};
 ghost use Rattle.std.specs.List.{find};
 ghost use Rattle.bstr.specs.Text.{Extends};
-ghost use Rattle.mj_head.specs.Head.{written};
+ghost use Rattle.mj_head.specs.Head.{written, fields_in, IsWritten};
 ghost use Rattle.mj_head.specs.Fields.{is_named};
-ghost use Rattle.mj_head.specs.Layout.{fields_at, layout, IsLaidOut};
-ghost use Rattle.mj_head.specs.Reading.{NoneIsNamed, IsFirstNamed};
+ghost use Rattle.mj_head.specs.Reading.{NoneIsNamed, IsFirstNamed, IsFirstField};
 
-use crate::field::{Field, is_same_name};
-use crate::lengths::Lengths;
+use crate::field::Field;
 use crate::walk::Walk;
 use std::alloc::AllocError;
 
@@ -66,33 +64,50 @@ pub(crate) fn fields_from(mut fields: Walk<'_>, place: usize) -> Walk<'_>
     fields
 }
 
-/// Takes out the fields of this name; those behind move up.
-pub(crate) fn remove_named(text: &mut Vec<u8>, lengths: &mut Vec<Lengths>, name: &[u8])
-    requires { IsLaidOut lengths.old.items text.old.items }
-    ensures text { text.new.items
-        ≡ written (filter (λ field. not (is_named name.now field)) (fields_at lengths.old.items text.old.items)) }
-    ensures lengths { lengths.new.items
-        ≡ layout (filter (λ field. not (is_named name.now field)) (fields_at lengths.old.items text.old.items)) }
+/// How many fields there are.
+pub(crate) fn count_fields(mut fields: Walk<'_>) -> usize
+    requires { length fields ≤ 65536 }
+    ensures { result ≡ length fields.entry }
+{
+    let mut count = 0;
+    while let Some(_field) = fields.next() {
+        count += 1;
+    }
+    count
+}
+
+/// Takes the fields of this name out of their written form; those behind move up.
+pub(crate) fn remove_named(text: &mut Vec<u8>, name: &[u8])
+    requires { IsWritten text.old.items }
+    ensures { text.new.items
+        ≡ written (filter (λ field. not (is_named name.now field)) (fields_in text.old.items)) }
 {
     let mut kept = 0;
-    let mut kept_len = 0;
     let mut from = 0;
-    for place in 0..lengths.len() {
-        let here = lengths[place];
-        let name_end = from + here.name as usize;
-        let end = name_end + here.body as usize + 3;
-        if is_same_name(&text[from..name_end], name) {
-            from = end;
-            continue;
+    while from < text.len() {
+        let (named, len) = first_field(&text[from..], name);
+        let end = from + len;
+        if !named {
+            text.copy_within(from..end, kept);
+            kept += len;
         }
-        text.copy_within(from..end, kept_len);
-        lengths[kept] = here;
-        kept += 1;
-        kept_len += end - from;
         from = end;
     }
-    text.truncate(kept_len);
-    lengths.truncate(kept);
+    text.truncate(kept);
+}
+
+/// Whether the first field has this name, and how many bytes its written form has.
+fn first_field(text: &[u8], name: &[u8]) -> (bool, usize)
+    requires written { IsWritten text.now }
+    requires some { 0 < length text.now }
+    ensures { IsFirstField name.now text.now result.0 result.1 }
+{
+    let mut fields = Walk::new(text);
+    let named = match fields.next() {
+        Some(field) => field.is_named(name),
+        None => false,
+    };
+    (named, text.len() - fields.written_len())
 }
 
 /// Puts the written form of the field of this name, whose raw body are both parts, at the end. After

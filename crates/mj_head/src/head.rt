@@ -2,13 +2,14 @@
 ghost use Rattle.std.specs.Prelude.{◌≡◌, ◌+◌, ◌<◌, ◌≤◌, ◌==◌, ◌↔◌, [], ◌∷◌, ◌++◌, true, false, not, length, filter, count_by, slice_get, take, drop, IsTrue, Option, Result, IfOk, OnOk, OnErr, List, ℕ};
 ghost use Rattle.std.specs.Option.{option_map};
 ghost use Rattle.mj_head.specs.Head.{written, is_head, is_field, is_field_name, head_of};
-ghost use Rattle.mj_head.specs.Reading.{with_body};
+ghost use Rattle.mj_head.specs.Reading.{with_body, Stands};
 ghost use Rattle.mj_head.specs.Fields.{is_named, unfolded, is_field_value, replaced_first, IsSomeHead};
 
 use crate::cursor::WRITTEN_LIMIT;
 use crate::field::Field;
-use crate::fields::{count_named, fields_from, first_named, place_named, put_field, remove_named};
-use crate::lengths::Lengths;
+use crate::fields::{
+    count_fields, count_named, fields_from, first_named, place_named, put_field, remove_named,
+};
 use crate::read::is_field;
 use crate::unfold::unfold;
 use crate::walk::Walk;
@@ -16,26 +17,22 @@ use std::alloc::{AllocError, Global};
 use std::marker::Model;
 
 /// The head of a message: its fields in order, in a written form of at most 65,536 bytes (RFC 5322,
-/// 2.2). It is this written form, and beside it the lengths of each field's parts. Contracts see the
-/// list of its fields.
+/// 2.2). It is this written form. Contracts see the list of its fields.
 #[derive(Debug, Drop)]
 pub struct Head {
     pub(crate) text: Vec<u8>,
-    pub(crate) lengths: Vec<Lengths>,
 }
 
 impl Model for Head {
     ghost use Rattle.std.specs.Prelude.{◌≡◌, ℕ, List, true};
-    ghost use Rattle.mj_head.specs.Head.{is_head};
+    ghost use Rattle.mj_head.specs.Head.{fields_in, written, is_head};
 
     ghost Value = { List (List ℕ × List ℕ) };
 
-    ghost use Rattle.mj_head.specs.Layout.{fields_at, IsLaidOut};
+    ghost view = { λ head. fields_in head.text.items };
 
-    ghost view = { λ head. fields_at head.lengths.items head.text.items };
-
-    ghost invariant = { λ head. IsLaidOut head.lengths.items head.text.items
-        × (is_head (fields_at head.lengths.items head.text.items) ≡ true) };
+    ghost invariant = { λ head. (written (fields_in head.text.items) ≡ head.text.items)
+        × (is_head (fields_in head.text.items) ≡ true) };
 }
 
 impl Head {
@@ -45,22 +42,21 @@ impl Head {
     {
         Head {
             text: Vec::new(alloc),
-            lengths: Vec::new(alloc),
         }
     }
 
-    /// The number of fields.
+    /// The number of fields. It goes over the fields.
     pub fn len(&self) -> usize
         ensures { result ≡ length self.now }
     {
-        self.lengths.len()
+        count_fields(self.walk())
     }
 
     /// Whether there is no field.
     pub fn is_empty(&self) -> bool
         ensures { result ≡ (length self.now == 0) }
     {
-        self.lengths.is_empty()
+        self.text.is_empty()
     }
 
     /// The field at this place, from 0; `None` where there are no more than `place` fields. It goes
@@ -77,7 +73,7 @@ impl Head {
         ensures fields { result ≡ self.now }
         ensures few { length self.now ≤ 65536 }
     {
-        Walk::new(&self.text, &self.lengths)
+        Walk::new(&self.text)
     }
 
     /// The number of bytes of the written form, at most 65,536.
@@ -111,7 +107,7 @@ impl Head {
     pub fn remove(&mut self, name: &[u8])
         ensures { self.new ≡ filter (λ field. not (is_named name.now field)) self.old }
     {
-        remove_named(&mut self.text, &mut self.lengths, name);
+        remove_named(&mut self.text, name);
     }
 
     /// A head equal to this one, in memory of its own.
@@ -119,8 +115,7 @@ impl Head {
         ensures { IfOk result (λ head. head ≡ self.now) }
     {
         let text = Vec::from_slice(alloc, &self.text)?;
-        let lengths = Vec::from_slice(alloc, &self.lengths)?;
-        Ok(Head { text, lengths })
+        Ok(Head { text })
     }
 
     /// Adds a field at the end, whose raw body is a space and the value. The answer is `false`, with
@@ -174,22 +169,28 @@ impl Head {
         ensures refused { result ≡ Result.Ok false → self.new ≡ self.old }
         ensures err { OnErr result (self.new ≡ self.old) }
     {
-        let here = self.lengths[place];
-        let others = self.text.len() - here.body as usize;
+        let (from, to) = self.body_at(place);
+        let others = self.text.len() - (to - from);
         let needed = value.len().saturating_add(1);
         if needed > WRITTEN_LIMIT - others {
             return Ok(false);
         }
-        let rest = fields_from(self.walk(), place).written_len();
-        let from = self.text.len() - rest + here.name as usize + 1;
-        let to = from + here.body as usize;
         let alloc = *self.text.allocator();
         self.text = with_value(alloc, &self.text, from, to, value)?;
-        self.lengths[place] = Lengths {
-            name: here.name,
-            body: needed as u32,
-        };
         Ok(true)
+    }
+
+    /// Where the raw body of the field at this place begins in the written form, and where it ends.
+    fn body_at(&self, place: usize) -> (usize, usize)
+        requires { place < length self.now }
+        ensures { Stands self.now place result.0 result.1 }
+    {
+        let mut fields = fields_from(self.walk(), place);
+        let Some(field) = fields.next() else {
+            return (0, 0);
+        };
+        let end = self.text.len() - fields.written_len() - 2;
+        (end - field.body().len(), end)
     }
 
     /// Adds the field of this name, whose raw body are both parts, at the end.
@@ -199,19 +200,8 @@ impl Head {
         ensures ok { OnOk result (self.new ≡ self.old ++ (name.now, front.now ++ body.now) ∷ []) }
         ensures err { OnErr result (self.new ≡ self.old) }
     {
-        let before = self.text.len();
-        let lengths = Lengths {
-            name: name.len() as u32,
-            body: (front.len() + body.len()) as u32,
-        };
         put_field(&mut self.text, name, front, body)?;
-        match self.lengths.push(lengths) {
-            Ok(()) => Ok(()),
-            Err(_) => {
-                self.text.truncate(before);
-                Err(AllocError)
-            }
-        }
+        Ok(())
     }
 
     /// Adds the field of this name and raw body at the end. The answer is `false`, with the head as

@@ -4,13 +4,14 @@ ghost use Rattle.std.specs.List.{list_all, list_any};
 ghost use Rattle.mj_terms.specs.Text.{trim_back};
 ghost use Rattle.mj_head.specs.Head.{Gives, lines, body_place, head_lines, form_fault, is_continuation, is_field, is_field_name, is_name_byte, is_raw_body, begins_blank, before_colon, after_colon, head_of};
 ghost use Rattle.mj_head.specs.Fields.{is_field_value};
-ghost use Rattle.mj_head.specs.Reading.{begins_continued, IsFault, BeginsField, Continues, ReadsField, head_at, fault_from, empty_line_len};
+ghost use Rattle.mj_head.specs.Plain.{ArePlain};
+ghost use Rattle.mj_head.specs.Reading.{IsFault, BeginsField, ReadsLines, fault_from, empty_line_len};
 
-use crate::cursor::Cursor;
+use crate::cursor::{Cursor, WRITTEN_LIMIT};
 use crate::fault::HeadFault;
 use crate::head::Head;
-use crate::lengths::Lengths;
 use crate::line::first_line;
+use crate::plain::plain_lines;
 use bstr::ByteSlice;
 use std::alloc::{AllocError, Global};
 
@@ -66,7 +67,7 @@ fn is_name_byte(b: u8) -> bool
     (33..=126).contains(&b) && b != b':'
 }
 
-fn begins_with_blank(bytes: &[u8]) -> bool
+pub(crate) fn begins_with_blank(bytes: &[u8]) -> bool
     ensures { result ≡ begins_blank bytes.now }
 {
     match bytes.first() {
@@ -207,11 +208,13 @@ fn has_crlf_at(bytes: &[u8], place: usize) -> bool
     rest > 1 && bytes[place] == b'\r' && bytes[place + 1] == b'\n'
 }
 
-/// Puts the continuation line at the front at the end of the text.
+/// Reads the line at the front, which continues a field, and puts what it adds to the written form at
+/// the end of the text.
 fn read_continuation<'a>(text: &mut Vec<u8>, cursor: Cursor<'a>) -> Result<Cursor<'a>, HeadFault>
+    requires some { (length (head_lines (lines cursor.rest.now)) == 0) ≡ false }
     requires begins { begins_blank cursor.rest.now ≡ true }
     requires later { 1 < cursor.line }
-    ensures lines { IfOk result (λ next. Continues text.old.items text.new.items cursor.entry next) }
+    ensures lines { IfOk result (λ next. ReadsLines text.old.items text.new.items cursor.entry next) }
     ensures shorter { IfOk result (λ next. length next.rest.now < length cursor.entry.rest.now) }
     ensures fault { IfErr result (λ fault. IsFault fault (fault_from cursor.entry)) }
 {
@@ -221,43 +224,74 @@ fn read_continuation<'a>(text: &mut Vec<u8>, cursor: Cursor<'a>) -> Result<Curso
     Ok(next)
 }
 
-/// Puts the continuation lines at the front at the end of the text.
-fn read_continuations<'a>(text: &mut Vec<u8>, start: Cursor<'a>) -> Result<Cursor<'a>, HeadFault>
-    requires { 1 < start.line }
-    ensures lines { IfOk result (λ end. Continues text.old.items text.new.items start.entry end) }
-    ensures ends { IfOk result (λ end. begins_continued (lines end.rest.now) ≡ false) }
-    ensures shorter { IfOk result (λ end. length end.rest.now ≤ length start.entry.rest.now) }
-    ensures fault { IfErr result (λ fault. IsFault fault (fault_from start.entry)) }
+/// Reads the line at the front, which begins a field or has a fault, and puts what it adds to the
+/// written form at the end of the text.
+fn read_beginning<'a>(text: &mut Vec<u8>, cursor: Cursor<'a>) -> Result<Cursor<'a>, HeadFault>
+    requires some { (length (head_lines (lines cursor.rest.now)) == 0) ≡ false }
+    requires begins { begins_blank cursor.rest.now ≡ true → cursor.line ≡ 1 }
+    ensures lines { IfOk result (λ next. ReadsLines text.old.items text.new.items cursor.entry next) }
+    ensures shorter { IfOk result (λ next. length next.rest.now < length cursor.entry.rest.now) }
+    ensures fault { IfErr result (λ fault. IsFault fault (fault_from cursor.entry)) }
 {
-    let mut cursor = start;
-    while begins_with_blank(cursor.rest) {
-        cursor = read_continuation(text, cursor)?;
-    }
-    Ok(cursor)
+    let (line, rest) = first_line(cursor.rest);
+    let (name, value) = field_parts(line, cursor.line)?;
+    let next = cursor.behind(rest, name.len() + value.len() + 3)?;
+    put_first_line(text, cursor.rest, line, name, value)?;
+    Ok(next)
 }
 
-/// Reads the field whose first line stands at the front, and puts its written form at the end of the
-/// text. After an error a part of it may stand there.
-fn read_field<'a>(text: &mut Vec<u8>, start: Cursor<'a>) -> Result<(Lengths, Cursor<'a>), HeadFault>
-    requires some { (length (head_lines (lines start.rest.now)) == 0) ≡ false }
-    requires begins { begins_continued (lines start.rest.now) ≡ true → start.line ≡ 1 }
-    ensures lines { IfOk result (λ read.
-        ReadsField text.old.items text.new.items read.0 start.entry read.1) }
-    ensures shorter { IfOk result (λ read. length read.1.rest.now < length start.entry.rest.now) }
-    ensures fault { IfErr result (λ fault. IsFault fault (fault_from start.entry)) }
+/// Reads the line at the front, and puts what it adds to the written form at the end of the text.
+/// After an error a part of it may stand there.
+fn read_line<'a>(text: &mut Vec<u8>, cursor: Cursor<'a>) -> Result<Cursor<'a>, HeadFault>
+    requires { (length (head_lines (lines cursor.rest.now)) == 0) ≡ false }
+    ensures lines { IfOk result (λ next. ReadsLines text.old.items text.new.items cursor.entry next) }
+    ensures shorter { IfOk result (λ next. length next.rest.now < length cursor.entry.rest.now) }
+    ensures fault { IfErr result (λ fault. IsFault fault (fault_from cursor.entry)) }
 {
-    let (line, rest) = first_line(start.rest);
-    let (name, value) = field_parts(line, start.line)?;
-    let second = start.behind(rest, name.len() + value.len() + 3)?;
-    let from = text.len();
-    put_first_line(text, start.rest, line, name, value)?;
-    let end = read_continuations(text, second)?;
-    let body = text.len() - from - name.len() - 3;
-    let lengths = Lengths {
-        name: name.len() as u32,
-        body: body as u32,
-    };
-    Ok((lengths, end))
+    if cursor.line > 1 && begins_with_blank(cursor.rest) {
+        read_continuation(text, cursor)
+    } else {
+        read_beginning(text, cursor)
+    }
+}
+
+/// Reads the plain lines at the front, which have so many bytes, and puts them at the end of the text
+/// as they are.
+fn read_plain<'a>(
+    text: &mut Vec<u8>,
+    cursor: Cursor<'a>,
+    len: usize,
+    count: u32,
+) -> Result<Cursor<'a>, HeadFault>
+    requires within { len ≤ length cursor.rest.now }
+    requires plain { ArePlain cursor.rest.now len count }
+    requires some { 0 < count }
+    requires later { 1 < cursor.line }
+    requires short { cursor.written + len ≤ 65536 }
+    ensures lines { IfOk result (λ next. ReadsLines text.old.items text.new.items cursor.entry next) }
+    ensures shorter { IfOk result (λ next. length next.rest.now < length cursor.entry.rest.now) }
+    ensures fault { IfErr result (λ fault. IsFault fault (fault_from cursor.entry)) }
+{
+    text.extend_from_slice(&cursor.rest[..len])?;
+    Ok(cursor.past(len, count))
+}
+
+/// Reads the plain lines at the front, or else the one line there, and puts what is read at the end
+/// of the text in its written form. After an error a part of it may stand there.
+fn read_lines<'a>(text: &mut Vec<u8>, cursor: Cursor<'a>) -> Result<Cursor<'a>, HeadFault>
+    requires { (length (head_lines (lines cursor.rest.now)) == 0) ≡ false }
+    ensures lines { IfOk result (λ next. ReadsLines text.old.items text.new.items cursor.entry next) }
+    ensures shorter { IfOk result (λ next. length next.rest.now < length cursor.entry.rest.now) }
+    ensures fault { IfErr result (λ fault. IsFault fault (fault_from cursor.entry)) }
+{
+    let (len, count) = plain_lines(cursor.rest);
+    // The first line may continue nothing, and the fault of a line that passes the limit has its
+    // number: both are read by themselves.
+    if count > 0 && cursor.line > 1 && len <= WRITTEN_LIMIT - cursor.written {
+        read_plain(text, cursor, len, count)
+    } else {
+        read_line(text, cursor)
+    }
 }
 
 /// Reads the head at the front of the bytes: its fields, and where the body begins (RFC 5322, 2.2).
@@ -271,14 +305,12 @@ pub fn read_head(alloc: Global, bytes: &[u8]) -> Result<(Head, usize), HeadFault
     ensures exact { Gives result (head_of bytes.now) }
     ensures place { IfOk result (λ read. read.1 ≤ length bytes.now) }
 {
-    let mut text = Vec::new(alloc);
-    let mut lengths = Vec::new(alloc);
+    let mut text = Vec::with_capacity(alloc, bytes.len().min(WRITTEN_LIMIT))?;
     let mut cursor = Cursor::new(bytes);
     while !is_head_over(cursor.rest) {
-        let (field, next) = read_field(&mut text, cursor)?;
-        lengths.push(field)?;
-        cursor = next;
+        cursor = read_lines(&mut text, cursor)?;
     }
+    text.shrink_to_fit();
     let place = bytes.len() - cursor.rest.len() + empty_line_len(cursor.rest);
-    Ok((Head { text, lengths }, place))
+    Ok((Head { text }, place))
 }

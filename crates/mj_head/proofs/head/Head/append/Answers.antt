@@ -1,13 +1,12 @@
-use Rattle.std.proofs.Common.{◌≡◌, ◌≤◌, ◌∷◌, length, sym, ap, refl, arith}
+use Rattle.std.proofs.Common.{◌≡◌, ◌≤◌, ◌∷◌, length, ap, refl, arith}
 use Rattle.std.proofs.lemmas.Bool.{false≢true}
 use Rattle.mj_head.specs.Head.{written}
-use Rattle.mj_head.proofs.Whole.{length-written_push}
-use Rattle.mj_head.proofs.Changes.{head_short, value_formed}
+use Rattle.mj_head.proofs.Changes.{length-written_push, head_short, value_formed}
 use Rattle.mj_head.proofs.head.Head.append.Goals as goal
 
 pub returns-then-needed-len-clause-fits : goal.returns-then-needed-len-clause-fits
 returns-then-needed-len-clause-fits c =
-    let len : length (written c.args.self.now) ≡ length c.self.inside.text.items = rw (← c.self.view_is) (sym (ap length c.self.invariant.0.text_is)) in
+    let len : length (written c.args.self.now) ≡ length c.self.inside.text.items = rw (← c.self.view_is) (ap length c.self.invariant.0) in
     let short : length (written c.args.self.now) ≤ 65536 = rw (← c.self.view_is) (head_short _ c.self.invariant.1) in (
       λ no. absurd (false≢true no),
       λ fits. absurd (omega (arith, fits, len, short, length-written_push c.args.self.now (c.args.name.now, 32 ∷ c.args.value.now))),
@@ -18,6 +17,6 @@ push-requires-clause-form c = value_formed c.args.name.now c.args.value.now c.re
 
 pub returns-clause-fits : goal.returns-clause-fits
 returns-clause-fits c =
-    let len : length (written c.args.self.now) ≡ length c.self.inside.text.items = rw (← c.self.view_is) (sym (ap length c.self.invariant.0.text_is)) in
+    let len : length (written c.args.self.now) ≡ length c.self.inside.text.items = rw (← c.self.view_is) (ap length c.self.invariant.0) in
     let short : length (written c.args.self.now) ≤ 65536 = rw (← c.self.view_is) (head_short _ c.self.invariant.1) in
     (λ _. omega (arith, len, short, length-written_push c.args.self.now (c.args.name.now, 32 ∷ c.args.value.now)), λ _. refl)

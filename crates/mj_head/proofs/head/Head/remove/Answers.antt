@@ -1,23 +1,18 @@
-use Rattle.std.proofs.Common.{not, ap, ◌∙◌}
+use Rattle.std.proofs.Common.{ap, ◌∙◌}
 use Rattle.std.specs.Prelude.{filter}
-use Rattle.mj_head.specs.Head.{RawField}
-use Rattle.mj_head.specs.Fields.{is_named}
-use Rattle.mj_head.specs.Layout.{fields_at}
-use Rattle.mj_head.proofs.Laid.{fields_are, laid_out}
+use Rattle.mj_head.specs.Head.{fields_in}
 use Rattle.mj_head.proofs.Changes.{is_head_filter}
+use Rattle.mj_head.proofs.Law.{is_kept}
+use Rattle.mj_head.proofs.Removal.{others}
 use Rattle.mj_head.proofs.head.Head.remove.Goals as goal
 
 pub invariant_of-self : goal.invariant_of-self
 invariant_of-self c =
-    let new = c.remove_named.new in
-    let fs = fields_at c.self.inside.lengths.items c.self.inside.text.items in
-    let kept = filter (λ (field : RawField). not (is_named c.args.name.now field)) fs in (
-      laid_out new.lengths.items new.text.items kept c.remove_named.ensures.lengths c.remove_named.ensures.text,
-      rw (fields_are new.lengths.items new.text.items kept c.remove_named.ensures.lengths c.remove_named.ensures.text) (is_head_filter (λ field. not (is_named c.args.name.now field)) fs c.self.invariant.1),
-    )
+    let fs = fields_in c.self.inside.text.items in
+    (is_kept c.remove_named.new.text.items (filter (others c.args.name.now) fs) c.remove_named.ensures (is_head_filter (others c.args.name.now) fs c.self.invariant.1)).1
 
 pub returns : goal.returns
 returns c =
-    let new = c.remove_named.new in
-    fields_are new.lengths.items new.text.items (filter (λ field. not (is_named c.args.name.now field)) (fields_at c.self.inside.lengths.items c.self.inside.text.items)) c.remove_named.ensures.lengths c.remove_named.ensures.text
-    ∙ ap (filter (λ field. not (is_named c.args.name.now field))) c.self.view_is
+    let fs = fields_in c.self.inside.text.items in
+    (is_kept c.remove_named.new.text.items (filter (others c.args.name.now) fs) c.remove_named.ensures (is_head_filter (others c.args.name.now) fs c.self.invariant.1)).0
+    ∙ ap (filter (others c.args.name.now)) c.self.view_is
