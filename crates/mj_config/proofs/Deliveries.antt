@@ -13,9 +13,9 @@ use Rattle.mj_config.specs.declared.fault.Refusal.{Refusal}
 use Rattle.mj_config.specs.declared.mailets.Class.{Class}
 use Rattle.mj_config.specs.declared.mailets.Class.TheVariants as class
 use Rattle.mj_config.specs.Classes.{class_in, class_rows, of_class, of_known}
-use Rattle.mj_config.specs.Mailets.{attributes_param, domain_value, formed_value, forward_param, mailet_of, mapping_param, names_param, new_outgoing, param, pass_through, schedule_param, target_value}
+use Rattle.mj_config.specs.Mailets.{attributes_param, formed_value, forward_param, mailet_of, mapping_param, names_param, new_outgoing, param, pass_through, schedule_param, target_value}
 use Rattle.mj_config.specs.Seen.{IsNew}
-use Rattle.mj_config.specs.Values.{◌>>=◌, Gives, checked, maybe, optional, required}
+use Rattle.mj_config.specs.Values.{◌>>=◌, Gives, checked, domain_value, maybe, optional, required}
 use Rattle.mj_config.proofs.Rows.{mailet_of_rows}
 
 module _ (taken : List (List ℕ)) where

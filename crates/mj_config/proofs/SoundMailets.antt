@@ -14,9 +14,9 @@ use Rattle.mj_plan.specs.Forms.{is_attribute_name, is_line, is_processor_name, i
 use Rattle.mj_plan.specs.Sound.{has_items, are_items, is_target, ascends, is_attribute, is_header_mapping, is_mailet, outgoing_of}
 use Rattle.mj_config.specs.declared.fault.PlanKind.{PlanKind}
 use Rattle.mj_config.specs.declared.fault.PlanKind.TheVariants.{WrongType, Twice, UnknownClass, UnknownProcessor, BadArgument, TooMany}
-use Rattle.mj_config.specs.Values.{required, maybe, some_or, text, texts, formed, target, address, each, is_filled}
+use Rattle.mj_config.specs.Values.{required, maybe, some_or, text, texts, formed, target, address, domain_value, each, is_filled}
 use Rattle.mj_config.specs.Matchers.{before, behind, items}
-use Rattle.mj_config.specs.Mailets.{param, formed_value, target_value, few, list_text, names_param, named_texts, table_of_texts, attribute, attributes_param, header_mapping, mapping_param, forward_param, pass_through, outgoing_param, schedule_param, domain_value, to_processor, set_mail_attribute, remove_mail_attribute, set_mime_header, remove_mime_header, attributes_to_headers, add_subject_prefix, forward, bounce, notify_postmaster, to_repository, remote_delivery, fail, mailet_of}
+use Rattle.mj_config.specs.Mailets.{param, formed_value, target_value, few, list_text, names_param, named_texts, table_of_texts, attribute, attributes_param, header_mapping, mapping_param, forward_param, pass_through, outgoing_param, schedule_param, to_processor, set_mail_attribute, remove_mail_attribute, set_mime_header, remove_mime_header, attributes_to_headers, add_subject_prefix, forward, bounce, notify_postmaster, to_repository, remote_delivery, fail, mailet_of}
 use Rattle.mj_config.proofs.Holds.{Holds, ok, err, bind, skip, choose, checks, form_of, optional_of, maybe_of, each_of, each_text_of, each_long, weaken}
 use Rattle.mj_config.proofs.Sorted.{first_sorted, required_sorted}
 use Rattle.mj_config.proofs.SoundConditions.{some_items, listed_by}

@@ -14,8 +14,8 @@ use Rattle.mj_plan.specs.Sound.{is_between, has_items, is_mapping}
 use Rattle.mj_config.specs.declared.fault.PlanKind.{PlanKind}
 use Rattle.mj_config.specs.declared.fault.PlanKind.TheVariants.{Missing, BadArgument, BadMoment, TooMany}
 use Rattle.mj_config.specs.declared.spool.Spool.{Spool}
-use Rattle.mj_config.specs.Values.{required, text, texts, number, whole, in_moment, address, domain, local_part, each, each_text, tables}
-use Rattle.mj_config.specs.Walk.{table_or_none, domain_value, address_value, moment_value, each_value, spool_of, spool_in, tables_or_none, addresses_row, error_row, host_row, host_row_or_none, row_with, mapping_of, rewrite_of, targets}
+use Rattle.mj_config.specs.Values.{required, text, texts, number, whole, in_moment, address, domain, domain_value, local_part, each, each_text, tables}
+use Rattle.mj_config.specs.Walk.{table_or_none, address_value, moment_value, each_value, spool_of, spool_in, tables_or_none, addresses_row, error_row, host_row, host_row_or_none, row_with, mapping_of, rewrite_of, targets}
 use Rattle.mj_config.proofs.Holds.{Holds, ok, err, bind, skip, checks, form_of, optional_of}
 
 -- ---- [spool]

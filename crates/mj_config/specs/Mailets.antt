@@ -13,7 +13,7 @@ use Rattle.mj_plan.specs.declared.mailet.Named.{Named}
 use Rattle.mj_plan.specs.Forms.{is_attribute_name, is_attribute_value, is_line, is_processor_name, is_repository}
 use Rattle.mj_config.specs.declared.fault.PlanKind.{PlanKind}
 use Rattle.mj_config.specs.declared.fault.PlanKind.TheVariants.{WrongType, Twice, UnknownClass, BadArgument, TooMany}
-use Rattle.mj_config.specs.Values.{◌>>=◌, required, optional, maybe, checked, some_or, text, texts, number, truth, address, domain, formed, target, each, each_text, is_filled}
+use Rattle.mj_config.specs.Values.{◌>>=◌, required, optional, maybe, checked, some_or, text, texts, number, truth, address, domain_value, formed, target, each, each_text, is_filled}
 use Rattle.mj_config.specs.Matchers.{before, behind, items}
 
 -- ---- Parameters
@@ -124,11 +124,6 @@ schedule_param step = do
   delays ← maybe text (get_member (codes "delayTime") step)
   retries ← optional 5 (number 0 999_999_999) (get_member (codes "maxRetries") step)
   schedule delays retries
-
-abbrev pub domain_value : Data → Result (List ℕ) PlanKind
-domain_value value = do
-  s ← text value
-  domain s
 
 -- ---- Classes: one row a name
 

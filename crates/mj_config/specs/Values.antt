@@ -125,6 +125,11 @@ address s = in_address (address_of s)
 abbrev pub domain : List ℕ → Result (List ℕ) PlanKind
 domain s = in_address (domain_of s)
 
+abbrev pub domain_value : Data → Result (List ℕ) PlanKind
+domain_value value = do
+  s ← text value
+  domain s
+
 abbrev pub local_part : List ℕ → Result (List ℕ) PlanKind
 local_part s = in_address (local_of s)
 

@@ -21,7 +21,7 @@ use Rattle.mj_config.specs.declared.fault.PlanFault.TheVariants.{Refused, Memory
 use Rattle.mj_config.specs.declared.fault.PlanKind.{PlanKind}
 use Rattle.mj_config.specs.declared.fault.PlanKind.TheVariants.{TooLarge, NotToml, Missing, WrongType, NoRoot, NoError, Twice, ReservedState, BadArgument, TooMany}
 use Rattle.mj_config.specs.declared.spool.Spool.{Spool}
-use Rattle.mj_config.specs.Values.{◌>>=◌, required, optional, checked, text, texts, tables, number, moment, address, domain, local_part, formed, target, each, each_text}
+use Rattle.mj_config.specs.Values.{◌>>=◌, required, optional, checked, text, texts, tables, number, moment, address, domain, domain_value, local_part, formed, target, each, each_text}
 use Rattle.mj_config.specs.Matchers.{matcher}
 use Rattle.mj_config.specs.Mailets.{mailet_of}
 
@@ -32,11 +32,6 @@ abbrev pub table_or_none : Option Data → Result Members PlanKind
 table_or_none None = Ok no_members
 table_or_none (Some (table members)) = Ok members
 table_or_none (Some other) = Err WrongType
-
-abbrev pub domain_value : Data → Result (List ℕ) PlanKind
-domain_value value = do
-  s ← text value
-  domain s
 
 abbrev pub address_value : Data → Result (List ℕ × List ℕ) PlanKind
 address_value value = do

@@ -4,13 +4,13 @@ ghost use Rattle.std.specs.Option.{option_copied, ForSome};
 ghost use Rattle.toml.specs.Data.{get_member};
 ghost use Rattle.toml.specs.View.{view, table_view};
 ghost use Rattle.mj_time.specs.Schedule.{schedule_of};
-ghost use Rattle.mj_config.specs.Values.{Gives, GivesBy, maybe, number, optional, text};
-ghost use Rattle.mj_config.specs.Mailets.{target_value, new_outgoing, outgoing_param, in_schedule, schedule, schedule_param, domain_value};
+ghost use Rattle.mj_config.specs.Values.{Gives, GivesBy, domain_value, maybe, number, optional, text};
+ghost use Rattle.mj_config.specs.Mailets.{target_value, new_outgoing, outgoing_param, in_schedule, schedule, schedule_param};
 
 use crate::fault::{PlanKind, Refusal};
 use crate::names::Names;
 use crate::params::{param_or, target_value};
-use crate::values::{TextForm, domain, number, text, value_at};
+use crate::values::{TextForm, domain_value, number, text, value_at};
 use mj_address::Domain;
 use mj_fields::Bytes;
 use mj_time::{Schedule, ScheduleFault};
@@ -101,13 +101,6 @@ pub(crate) fn gateway_param(alloc: Global, step: &Table) -> Result<Option<Domain
         Some(value) => Ok(Some(domain_value(alloc, value)?)),
         None => Ok(None),
     }
-}
-
-fn domain_value(alloc: Global, value: &Value) -> Result<Domain, Refusal>
-    ensures { Gives result (domain_value (view value.now)) }
-{
-    let text = text(value)?;
-    domain(alloc, text)
 }
 
 /// The processor that bounces go to, if one is named.

@@ -1,12 +1,12 @@
 //! The table `[spool]`.
 ghost use Rattle.std.specs.Prelude.{◌≡◌, option_map};
 ghost use Rattle.toml.specs.View.{view, table_view};
-ghost use Rattle.mj_config.specs.Values.{Gives, address, domain, local_part, number, optional};
-ghost use Rattle.mj_config.specs.Walk.{address_value, domain_value, each_value, moment_value, spool_of};
+ghost use Rattle.mj_config.specs.Values.{Gives, address, domain, domain_value, local_part, number, optional};
+ghost use Rattle.mj_config.specs.Walk.{address_value, each_value, moment_value, spool_of};
 
 use crate::arrays::{domains_in, local_parts_in};
 use crate::fault::Refusal;
-use crate::values::{address, domain, moment, number, required, text, texts, value_at};
+use crate::values::{address, domain_value, moment, number, required, text, texts, value_at};
 use mj_address::{Address, Domain};
 use mj_fields::{Bytes, Items};
 use std::alloc::Global;
@@ -41,12 +41,6 @@ pub(crate) fn read_spool(alloc: Global, table: &Table) -> Result<Spool, Refusal>
         start,
         max_hops,
     })
-}
-
-fn domain_value(alloc: Global, value: &Value) -> Result<Domain, Refusal>
-    ensures { Gives result (domain_value (view value.now)) }
-{
-    domain(alloc, text(value)?)
 }
 
 fn address_value(alloc: Global, value: &Value) -> Result<Address, Refusal>

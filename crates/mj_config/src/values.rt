@@ -3,7 +3,7 @@ ghost use Rattle.std.specs.Prelude.{◌≡◌, ◌<◌, ◌≤◌, option_map, I
 ghost use Rattle.std.specs.Str.{bytes_eq};
 ghost use Rattle.toml.specs.Data.{get_member, integer, string};
 ghost use Rattle.toml.specs.View.{view, table_view, items_view};
-ghost use Rattle.mj_config.specs.Values.{Gives, GivesBy, required, text, whole, number, truth, texts, is_text, are_texts, address, domain, local_part, moment, formed, has_form};
+ghost use Rattle.mj_config.specs.Values.{Gives, GivesBy, required, text, whole, number, truth, texts, is_text, are_texts, address, domain, domain_value, local_part, moment, formed, has_form};
 
 use crate::fault::{PlanKind, Refusal};
 use mj_address::{Address, AddressFault, Domain, judge_local};
@@ -196,6 +196,13 @@ pub(crate) fn domain(alloc: Global, text: &[u8]) -> Result<Domain, Refusal>
         Err(AddressFault::Memory) => Err(Refusal::Memory),
         Err(_) => Err(Refusal::Kind(PlanKind::BadAddress)),
     }
+}
+
+/// The value as a domain.
+pub(crate) fn domain_value(alloc: Global, value: &Value) -> Result<Domain, Refusal>
+    ensures { Gives result (domain_value (view value.now)) }
+{
+    domain(alloc, text(value)?)
 }
 
 /// A text as a local part.
