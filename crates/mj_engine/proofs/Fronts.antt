@@ -6,9 +6,11 @@ use Rattle.std.proofs.lemmas.Bool.{and_parts}
 use Rattle.std.proofs.lemmas.Str.{IsUtf8-from_is_utf8}
 use Rattle.mj_terms.specs.Limits.{within-take}
 use Rattle.mj_mailfile.specs.MailFile.{mail_file-take}
-use Rattle.mj_engine.specs.Config.{configuration, document, plan_of_document, plan_room}
+use Rattle.mj_config.specs.Walk.{◌then◌, document, plan, plan_of_text}
+use Rattle.mj_config.specs.declared.fault.PlanFault.TheVariants.{Refused}
+use Rattle.mj_config.specs.declared.fault.PlanKind.TheVariants.{TooLarge}
+use Rattle.mj_engine.specs.Config.{built, configuration, plan_room}
 use Rattle.mj_engine.specs.Intake.{as_refusal, mail_in, mail_room}
-use Rattle.mj_engine.specs.declared.config.PlanKind.TheVariants.{NotBuilt}
 
 pub mail_of_front : (room : ℕ) (file : Option (List ℕ)) → room ≡ mail_room → mail_in (option_map (take room) file) ≡ mail_in file
 unfolding mail_room
@@ -16,9 +18,9 @@ mail_of_front room None e = refl
 mail_of_front room (Some bytes) e = ap (λ mail. Some (as_refusal mail)) (mail_file-take room bytes e)
 
 pub plan_of_front : (room : ℕ) (file : Option (List ℕ)) → room ≡ plan_room → configuration (option_map (take room) file) ≡ configuration file
-unfolding configuration plan_room
+unfolding plan plan_room
 plan_of_front room None e = refl
-plan_of_front room (Some bytes) e = within-take 1_048_576 room (Err NotBuilt) (λ text. plan_of_document (document text)) bytes e
+plan_of_front room (Some bytes) e = ap (λ read. read then built) (within-take 1_048_576 room (Err (Refused TooLarge 0 0)) (λ text. plan_of_text (document text)) bytes e)
 
 -- each of these names is a text
 pub text_at : (names : List (List ℕ)) (k : ℕ) (d : List ℕ) → list_all is_utf8 names ≡ true → k < length names → IsUtf8 (get_or names k d)

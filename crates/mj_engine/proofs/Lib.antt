@@ -1,5 +1,6 @@
+pub mod Built
+pub mod Carried
 pub mod Fronts
 pub mod Lines
-pub mod Members
 pub mod Names
 pub mod Written

@@ -8,7 +8,8 @@ use Rattle.mj_io.specs.Folder.{names_in}
 use Rattle.mj_mail.specs.declared.mail.NewMail.{NewMail}
 use Rattle.mj_mail.specs.Mail.{first}
 use Rattle.mj_mail.specs.Meaning.{meaning, tree}
-use Rattle.mj_engine.specs.declared.plan.Plan.{Plan}
+use Rattle.mj_config.specs.declared.fault.PlanFault.{PlanFault}
+use Rattle.mj_plan.specs.declared.plan.Plan.{Plan}
 use Rattle.mj_engine.specs.declared.refusal.Refusal.{Refusal}
 use Rattle.mj_engine.specs.declared.report.Report.{Report}
 use Rattle.mj_engine.specs.Intake.{folder, is_mail_name, judged, found_mail, found_refusal, mails_of, refusals_of}
@@ -28,7 +29,7 @@ drop_at xs k x e = drop_more xs k x (slice_get_within xs k x e) ∙ ap (λ y. y 
 module _ (plan : Plan) (files : List (List ℕ × List ℕ)) where
   -- the lines of mails that are numbered from n on
   abbrev lines_from : ℕ → List NewMail → List ℕ
-  lines_from n mails = flat_map fact_line (meaning (step plan) (enumerate_from n mails))
+  lines_from n mails = flat_map fact_line (meaning plan.start (step plan) (enumerate_from n mails))
 
   found_facts : (name : List ℕ) (found : Option (Result NewMail Refusal)) (mails : List NewMail) (report : Report)
       → (with_found plan name report found).facts ++ lines_from ((with_found plan name report found).accepted + 1) mails
@@ -36,8 +37,8 @@ module _ (plan : Plan) (files : List (List ℕ × List ℕ)) where
   found_facts name None mails report = refl
   found_facts name (Some (Err refusal)) mails report = refl
   found_facts name (Some (Ok mail)) mails report =
-      let here = tree (step plan) (first (report.accepted + 1) mail) in
-      let rest = meaning (step plan) (enumerate_from (report.accepted + 1 + 1) mails) in
+      let here = tree (step plan) (first plan.start (report.accepted + 1) mail) in
+      let rest = meaning plan.start (step plan) (enumerate_from (report.accepted + 1 + 1) mails) in
       append_assoc report.facts (flat_map fact_line here) (flat_map fact_line rest)
       ∙ ap (λ lines. report.facts ++ lines) (sym (flat_map-append fact_line here rest))
 
@@ -85,3 +86,11 @@ module _ (plan : Plan) (files : List (List ℕ × List ℕ)) where
       let others : report.refused ≡ flat_map refused_line (refusals_of files (filter is_mail_name (names_in folder files))) = ap (λ r. r.refused) named ∙ refused_of_names (names_in folder files) empty_report in
       let same : report_of plan files ≡ text = sym (written ∙ rw (facts, others)) in
       ap (output_by files) planned ∙ ap (λ t. Ok t) same
+
+refused_by : (files : List (List ℕ × List ℕ)) (planned : Result Plan PlanFault) (fault : PlanFault) → output_by files planned ≡ Err fault → planned ≡ Err fault
+refused_by files (Ok plan) fault e = absurd cc
+refused_by files (Err other) fault e = let same : other ≡ fault = cc in ap (λ f. Err f) same
+
+-- no output comes of a configuration that is refused alone
+pub refused_plan : (files : List (List ℕ × List ℕ)) (fault : PlanFault) → output files ≡ Err fault → plan_in files ≡ Err fault
+refused_plan files fault e = refused_by files (plan_in files) fault e

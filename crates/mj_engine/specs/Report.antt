@@ -4,7 +4,9 @@ use Rattle.std.specs.Fmt.{decimal}
 use Rattle.std.specs.List.{flat_map}
 use Rattle.mj_address.specs.Reading.{spelled}
 use Rattle.mj_mail.specs.declared.fact.Fact.{Fact}
-use Rattle.mj_mail.specs.declared.fact.Fact.TheVariants.{Deposit}
+use Rattle.mj_mail.specs.declared.fact.Fact.TheVariants.{Deposit, Dropped, FellOff, Looped}
+use Rattle.mj_mail.specs.declared.fact.Why.{Why}
+use Rattle.mj_mail.specs.declared.fact.Why.TheVariants.{Discarded}
 use Rattle.mj_mail.specs.Mail.{size}
 use Rattle.mj_mail.specs.Meaning.{Placed}
 use Rattle.mj_mail.specs.Name.{text_of}
@@ -24,9 +26,20 @@ separator zero = []
 separator (suc place) = 44 ∷ []
 
 -- what is said of a fact
+abbrev pub deposit_text : List ℕ → List (List ℕ × List ℕ) → ℕ → List ℕ
+deposit_text repository recipients size = codes "deposit " ++ repository ++ (32 ∷ recipients_text recipients) ++ 32 ∷ decimal size
+
+abbrev pub felloff_text : List ℕ → List (List ℕ × List ℕ) → List ℕ
+felloff_text processor recipients = codes "felloff " ++ processor ++ 32 ∷ recipients_text recipients
+
+abbrev pub why_text : Why → List ℕ
+why_text Discarded = codes "dropped discarded "
+
 abbrev pub fact_text : Fact → List ℕ
-fact_text (Deposit repository sender recipients head body) =
-    codes "deposit " ++ repository ++ (32 ∷ recipients_text recipients) ++ 32 ∷ decimal (size head body)
+fact_text (Deposit repository sender recipients head body) = deposit_text repository recipients (size head body)
+fact_text (Dropped why recipients) = why_text why ++ recipients_text recipients
+fact_text (FellOff processor recipients) = felloff_text processor recipients
+fact_text (Looped recipients) = codes "looped " ++ recipients_text recipients
 
 -- the line of a fact of a mail: the mail's name, `#`, the fact's number, and what is said of it
 abbrev pub line_of : List ℕ → ℕ → Fact → List ℕ

@@ -5,8 +5,9 @@ use Rattle.mj_io.specs.Folder.{file_at}
 use Rattle.mj_mail.specs.declared.mail.NewMail.{NewMail}
 use Rattle.mj_mail.specs.Mail.{first}
 use Rattle.mj_mail.specs.Meaning.{meaning, tree}
-use Rattle.mj_engine.specs.declared.config.PlanKind.{PlanKind}
-use Rattle.mj_engine.specs.declared.plan.Plan.{Plan}
+use Rattle.mj_config.specs.declared.fault.PlanFault.{PlanFault}
+use Rattle.mj_config.specs.declared.fault.PlanFault.TheVariants as config
+use Rattle.mj_plan.specs.declared.plan.Plan.{Plan}
 use Rattle.mj_engine.specs.declared.refusal.Refusal.{Refusal}
 use Rattle.mj_engine.specs.declared.report.Report.{Report}
 use Rattle.mj_engine.specs.declared.run.RunFault.{RunFault}
@@ -17,33 +18,33 @@ use Rattle.mj_engine.specs.Report.{fact_line, refused_line}
 use Rattle.mj_engine.specs.Step.{step}
 
 -- the plan of the configuration file, or its fault
-abbrev pub plan_in : List (List ℕ × List ℕ) → Result Plan PlanKind
+abbrev pub plan_in : List (List ℕ × List ℕ) → Result Plan PlanFault
 plan_in files = configuration (file_at (codes "conf/mailetcontainer.toml") files)
 
 -- The report: the line of each fact of the meaning of the accepted mails, in the order of places, and then the line of
 -- each refused file.
 abbrev pub report : Plan → List (List ℕ × List ℕ) → List ℕ
-report plan files = flat_map fact_line (meaning (step plan) (fresh files)) ++ flat_map refused_line (refused files)
+report plan files = flat_map fact_line (meaning plan.start (step plan) (fresh files)) ++ flat_map refused_line (refused files)
 
 -- what a run writes, or the fault of its configuration
-abbrev pub output_by : List (List ℕ × List ℕ) → Result Plan PlanKind → Result (List ℕ) PlanKind
+abbrev pub output_by : List (List ℕ × List ℕ) → Result Plan PlanFault → Result (List ℕ) PlanFault
 output_by files (Ok plan) = Ok (report plan files)
-output_by files (Err kind) = Err kind
+output_by files (Err fault) = Err fault
 
-abbrev pub output : List (List ℕ × List ℕ) → Result (List ℕ) PlanKind
+abbrev pub output : List (List ℕ × List ℕ) → Result (List ℕ) PlanFault
 output files = output_by files (plan_in files)
 
 -- what was returned is that, unless the files failed or memory ran out
-abbrev pub GivesOutput : Result (List ℕ) RunFault → Result (List ℕ) PlanKind → Type 0
+abbrev pub GivesOutput : Result (List ℕ) RunFault → Result (List ℕ) PlanFault → Type 0
 GivesOutput (Ok text) said = said ≡ Ok text
-GivesOutput (Err (Refused kind)) said = said ≡ Err kind
+GivesOutput (Err (Refused kind processor step)) said = said ≡ Err (config.Refused kind processor step)
 GivesOutput (Err Read) said = Unit {0}
 GivesOutput (Err Memory) said = Unit {0}
 
 -- and the same of the plan alone
-abbrev pub GivesPlan : Result Plan RunFault → Result Plan PlanKind → Type 0
+abbrev pub GivesPlan : Result Plan RunFault → Result Plan PlanFault → Type 0
 GivesPlan (Ok plan) said = said ≡ Ok plan
-GivesPlan (Err (Refused kind)) said = said ≡ Err kind
+GivesPlan (Err (Refused kind processor step)) said = said ≡ Err (config.Refused kind processor step)
 GivesPlan (Err Read) said = Unit {0}
 GivesPlan (Err Memory) said = Unit {0}
 
@@ -55,7 +56,7 @@ empty_report = record { facts = []; refused = []; accepted = 0 }
 abbrev pub with_found : Plan → List ℕ → Report → Option (Result NewMail Refusal) → Report
 with_found plan name report None = report
 with_found plan name report (Some (Ok mail)) = record report {
-  facts = report.facts ++ flat_map fact_line (tree (step plan) (first (report.accepted + 1) mail));
+  facts = report.facts ++ flat_map fact_line (tree (step plan) (first plan.start (report.accepted + 1) mail));
   accepted = report.accepted + 1;
 }
 with_found plan name report (Some (Err refusal)) = record report { refused = report.refused ++ refused_line (name, refusal) }

@@ -1,17 +1,16 @@
 //! The top call of the program `james`: from the words of the command line, the files and the sink to the status.
 #![tactic(auto)]
 
+mod carry;
 mod config;
 mod intake;
-mod plan;
 mod refusal;
 mod report;
 mod run;
 mod step;
 mod top;
 
-pub use config::{PlanFault, PlanKind, read_plan};
-pub use plan::Plan;
+pub use config::read_configuration;
 pub use refusal::Refusal;
 pub use top::james_one;
 

@@ -1,19 +1,19 @@
 ghost use Rattle.std.specs.Prelude.{◌≡◌, ◌++◌, ◌∷◌, ◌<◌, length, slice_get, OnOk};
 ghost use Rattle.std.specs.List.{flat_map};
 ghost use Rattle.std.specs.Fmt.{decimal};
-ghost use Rattle.mj_mail.specs.Meaning.{placed, tree};
+ghost use Rattle.mj_mail.specs.Meaning.{placed};
 ghost use Rattle.mj_mail.specs.Mail.{size};
-ghost use Rattle.mj_engine.specs.Step.{step as step_of};
 ghost use Rattle.mj_address.specs.Reading.{spelled};
-ghost use Rattle.mj_engine.specs.Report.{recipients_text, separator, fact_text, fact_line, line_of, name_byte, hex_digit as hex_digit_of, file_text, fault_text, refusal_text, refused_line, is_plain_byte};
+ghost use Rattle.mj_engine.specs.Report.{recipients_text, separator, deposit_text, felloff_text, fact_text, why_text, fact_line, line_of, name_byte, hex_digit as hex_digit_of, file_text, fault_text, refusal_text, refused_line, is_plain_byte};
 
-use crate::step::step;
-use crate::{Plan, Refusal};
+use crate::Refusal;
+use crate::carry::put_tree;
 use mj_address::{Address, Recipients};
 use mj_fields::{Bytes, Memory};
 use mj_head::Head;
-use mj_mail::{Body, Fact, Mail, Name, NewMail, name_text, put_number};
+use mj_mail::{Body, Fact, Name, NewMail, Why, name_text, put_number};
 use mj_mailfile::MailFault;
+use mj_plan::Plan;
 use std::alloc::Global;
 
 /// The lines of a run so far: those of facts, those of refused files, and how many mails were accepted.
@@ -46,6 +46,7 @@ impl Report {
         file: &[u8],
         found: Option<Result<NewMail, Refusal>>,
     ) -> Result<(), Memory>
+        requires few { plan.now.max_hops ≤ 1_000 }
         requires room { self.old.accepted < 2 ^ 63 }
         requires small { IfSome found (λ mail. IfOk mail (λ mail. length mail.body ≤ 16_777_216)) }
         ensures added { OnOk result (self.new ≡ with_found plan.now file.now self.old found) }
@@ -59,12 +60,13 @@ impl Report {
     }
 
     fn add_mail(&mut self, alloc: Global, plan: &Plan, mail: NewMail) -> Result<(), Memory>
+        requires few { plan.now.max_hops ≤ 1_000 }
         requires room { self.old.accepted < 2 ^ 63 }
         requires small { length mail.body ≤ 16_777_216 }
         ensures added { OnOk result (self.new ≡ with_found plan.now [] self.old (Some (Ok mail))) }
     {
         let number = self.accepted + 1;
-        let mail = mail.into_first(alloc, number)?;
+        let mail = mail.into_first(alloc, plan.start, number)?;
         put_tree(alloc, &mut self.facts, plan, mail)?;
         self.accepted = number;
         Ok(())
@@ -80,18 +82,18 @@ impl Report {
     }
 }
 
-/// Puts the line of each fact about a mail at the end of the text.
-fn put_tree(alloc: Global, out: &mut Bytes, plan: &Plan, mail: Mail) -> Result<(), Memory>
-    ensures { OnOk result (out.new ≡ out.old ++ flat_map fact_line (tree (step_of plan.now) mail)) }
-{
-    let name = mail.name.copy(alloc)?;
-    let outcome = step(alloc, plan, mail)?;
-    put_facts(alloc, out, &name, outcome.facts.as_slice())
-}
-
-fn put_facts(alloc: Global, out: &mut Bytes, name: &Name, facts: &[Fact]) -> Result<(), Memory>
+/// Puts the line of each fact of a mail of this name at the end of the text.
+pub(crate) fn put_facts(
+    alloc: Global,
+    out: &mut Bytes,
+    name: &Name,
+    facts: &[Fact],
+) -> Result<(), Memory>
     ensures { OnOk result (out.new ≡ out.old ++ flat_map fact_line (placed name.now facts.now)) }
 {
+    if facts.is_empty() {
+        return Ok(());
+    }
     let text = name_text(alloc, name)?;
     for (k, fact) in facts.iter().enumerate() {
         put_fact_line(alloc, out, text.as_slice(), k as u64 + 1, fact)?;
@@ -119,19 +121,63 @@ fn put_fact_line(
 fn put_fact(alloc: Global, out: &mut Bytes, fact: &Fact) -> Result<(), Memory>
     ensures { OnOk result (out.new ≡ out.old ++ fact_text fact.now) }
 {
-    let Fact::Deposit {
-        repository,
-        recipients,
-        head,
-        body,
-        ..
-    } = fact;
+    match fact {
+        Fact::Deposit {
+            repository,
+            recipients,
+            head,
+            body,
+            ..
+        } => put_deposit(alloc, out, repository, recipients, message_size(head, body)),
+        Fact::Dropped { why, recipients } => put_for(out, why_words(*why), recipients),
+        Fact::FellOff {
+            processor,
+            recipients,
+        } => put_felloff(out, processor.as_slice(), recipients),
+        Fact::Looped { recipients } => put_for(out, b"looped ", recipients),
+    }
+}
+
+fn why_words(why: Why) -> &'static [u8]
+    ensures { result.now ≡ why_text why }
+{
+    match why {
+        Why::Discarded => b"dropped discarded ",
+    }
+}
+
+/// Puts these words and the recipients.
+fn put_for(out: &mut Bytes, words: &[u8], recipients: &Recipients) -> Result<(), Memory>
+    ensures { OnOk result (out.new ≡ out.old ++ (words.now ++ recipients_text recipients.now)) }
+{
+    out.extend(words)?;
+    put_recipients(out, recipients)
+}
+
+fn put_felloff(out: &mut Bytes, processor: &[u8], recipients: &Recipients) -> Result<(), Memory>
+    ensures { OnOk result (out.new ≡ out.old ++ felloff_text processor.now recipients.now) }
+{
+    out.extend(b"felloff ")?;
+    out.extend(processor)?;
+    out.push(b' ')?;
+    put_recipients(out, recipients)
+}
+
+fn put_deposit(
+    alloc: Global,
+    out: &mut Bytes,
+    repository: &Bytes,
+    recipients: &Recipients,
+    size: u64,
+) -> Result<(), Memory>
+    ensures { OnOk result (out.new ≡ out.old ++ deposit_text repository.now recipients.now size) }
+{
     out.extend(b"deposit ")?;
     out.extend(repository.as_slice())?;
     out.push(b' ')?;
     put_recipients(out, recipients)?;
     out.push(b' ')?;
-    put_number(alloc, out, message_size(head, body))
+    put_number(alloc, out, size)
 }
 
 /// How many bytes the whole message has: the written head, the empty line and the body.

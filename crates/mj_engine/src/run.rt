@@ -7,13 +7,14 @@ ghost use Rattle.mj_engine.specs.Config.{configuration, plan_room as room_of_pla
 ghost use Rattle.mj_engine.specs.Intake.{folder, mail_room as room_of_mail};
 ghost use Rattle.mj_engine.specs.Run.{GivesOutput, GivesPlan, output, plan_in, with_name, with_names, empty_report};
 
-use crate::config::{MAX_CONFIGURATION, PlanFault, read_plan};
+use crate::config::read_configuration;
 use crate::intake::{is_mail_name, judge};
 use crate::report::Report;
-use crate::{Plan, PlanKind};
+use mj_config::{MAX_CONFIGURATION, PlanFault, PlanKind};
 use mj_fields::{Bytes, Memory};
 use mj_io::{Files, FilesError};
 use mj_mailfile::MAX_FILE;
+use mj_plan::Plan;
 use std::alloc::Global;
 
 const CONFIGURATION: &str = "conf/mailetcontainer.toml";
@@ -23,8 +24,12 @@ const FOLDER: &str = "mails";
 /// Why a run ended before it had anything to write.
 #[derive(Clone, Copy, Debug, PartialEq, Eq)]
 pub enum RunFault {
-    /// The configuration is missing or refused.
-    Refused(PlanKind),
+    /// The configuration is missing or refused, with this fault at this step of this processor.
+    Refused {
+        kind: PlanKind,
+        processor: u32,
+        step: u32,
+    },
     /// The files failed.
     Read,
     /// There was no room.
@@ -70,6 +75,7 @@ pub fn run<F: Files>(alloc: Global, files: &mut F) -> Result<Bytes, RunFault>
 fn load_plan<F: Files>(alloc: Global, files: &mut F, room: usize) -> Result<Plan, RunFault>
     requires { room ≡ room_of_plan }
     ensures exact { IfSome (F.told files.old) (λ told. GivesPlan result (plan_in told)) }
+    ensures few { IfOk result (λ plan. plan.max_hops ≤ 1_000) }
     ensures same { F.told files.new ≡ F.told files.old }
     ensures cause { HasCause RunFault.Read (F.faults files.old) (F.faults files.new) result }
 {
@@ -79,21 +85,33 @@ fn load_plan<F: Files>(alloc: Global, files: &mut F, room: usize) -> Result<Plan
 
 fn plan_of_file(alloc: Global, file: Option<Bytes>) -> Result<Plan, RunFault>
     ensures exact { GivesPlan result (configuration file) }
+    ensures few { IfOk result (λ plan. plan.max_hops ≤ 1_000) }
     ensures cause { IsErrOf result RunFault.Read → ⊥ }
 {
     let plan = match file {
-        None => read_plan(alloc, None),
-        Some(bytes) => read_plan(alloc, Some(bytes.as_slice())),
+        None => read_configuration(alloc, None),
+        Some(bytes) => read_configuration(alloc, Some(bytes.as_slice())),
     };
     match plan {
         Ok(plan) => Ok(plan),
-        Err(PlanFault::Refused(kind)) => Err(RunFault::Refused(kind)),
+        Err(
+            PlanFault::Refused {
+                kind,
+                processor,
+                step,
+            },
+        ) => Err(RunFault::Refused {
+            kind,
+            processor,
+            step,
+        }),
         Err(PlanFault::Memory) => Err(RunFault::Memory),
     }
 }
 
 /// The report of all names of the folder.
 fn take_in<F: Files>(alloc: Global, files: &mut F, plan: &Plan) -> Result<Report, FilesError>
+    requires { plan.now.max_hops ≤ 1_000 }
     ensures exact { IfSome (F.told files.old) (λ told. IfOk result (λ report. report ≡ with_names plan.now told (names_in folder told) empty_report)) }
     ensures same { F.told files.new ≡ F.told files.old }
     ensures cause { HasCause FilesError.Failed (F.faults files.old) (F.faults files.new) result }
@@ -108,7 +126,8 @@ fn take_names<F: Files>(
     plan: &Plan,
     names: &[Bytes],
 ) -> Result<Report, FilesError>
-    requires { list_all is_utf8 names.now ≡ true }
+    requires few { plan.now.max_hops ≤ 1_000 }
+    requires utf8 { list_all is_utf8 names.now ≡ true }
     ensures exact { IfSome (F.told files.old) (λ told. IfOk result (λ report. report ≡ with_names plan.now told names.now empty_report)) }
     ensures same { F.told files.new ≡ F.told files.old }
     ensures cause { HasCause FilesError.Failed (F.faults files.old) (F.faults files.new) result }
@@ -138,7 +157,8 @@ fn take_name<F: Files>(
     name: &str,
     report: &mut Report,
 ) -> Result<(), FilesError>
-    requires { report.old.accepted < 2 ^ 63 }
+    requires few { plan.now.max_hops ≤ 1_000 }
+    requires room { report.old.accepted < 2 ^ 63 }
     ensures exact { IfSome (F.told files.old) (λ told. OnOk result (report.new ≡ with_name plan.now told report.old name.now)) }
     ensures count { OnOk result (report.new.accepted ≤ report.old.accepted + 1) }
     ensures same { F.told files.new ≡ F.told files.old }

@@ -7,7 +7,8 @@ use std::test::Fail;
 
 const CONFIGURATION: &str = "conf/mailetcontainer.toml";
 
-const SPOOL: &str = "[spool]\nhost_name = \"mx.example.org\"\n";
+const SPOOL: &str =
+    "[spool]\nhost_name = \"mx.example.org\"\npostmaster = \"postmaster@example.org\"\nlocal_hosts = [\"example.org\"]\nlocal_users = [\"ann\", \"bob\", \"postmaster\"]\nstart = \"2024-01-01T00:00:00Z\"\n";
 
 const ROOT: &str =
     "[[processor]]\nname = \"root\"\n[[processor.step]]\nmatch = \"All\"\nclass = \"ToRepository\"\nrepositoryPath = \"file://var/mail/in\"\n";
@@ -230,61 +231,155 @@ fn keeps_the_limits(rt: HostRuntime) -> Result<(), Fail> {
     Ok(())
 }
 
-/// A configuration in three parts, and the kind that its fault line names; an empty kind where it is taken.
-const CONFIGURATIONS: [(&str, &str, &str, &str); 12] = [
+/// The table `[spool]` without its postmaster.
+const NO_POSTMASTER: &str =
+    "[spool]\nhost_name = \"mx.example.org\"\nlocal_hosts = [\"example.org\"]\nlocal_users = []\nstart = \"2024-01-01T00:00:00Z\"\n";
+
+/// A processor `transport` that delivers locally, which isn't built.
+const TRANSPORT: &str =
+    "[[processor]]\nname = \"transport\"\n[[processor.step]]\nmatch = \"RecipientIsLocal\"\nclass = \"LocalDelivery\"\n";
+
+/// A processor `root` that sends each mail to `transport`, whose steps deliver it locally, refuse it, or deliver it remotely.
+const SITE: &str =
+    "[[processor]]\nname = \"root\"\n[[processor.step]]\nmatch = \"All\"\nclass = \"ToProcessor\"\nprocessor = \"transport\"\n[[processor]]\nname = \"transport\"\n[[processor.step]]\nmatch = \"RecipientIsLocal\"\nclass = \"LocalDelivery\"\n[[processor.step]]\nmatch = \"HostIsLocal\"\nclass = \"ToProcessor\"\nprocessor = \"error\"\n[[processor.step]]\nmatch = \"All\"\nclass = \"RemoteDelivery\"\nmaxRetries = 5\n";
+
+/// What the last step of `SITE` may have, and the processor `error`.
+const DELAYS: &str =
+    "delayTime = \"2*5 minutes, 1 hour\"\n[[processor]]\nname = \"error\"\n[[processor.step]]\nmatch = \"All\"\nclass = \"ToRepository\"\nrepositoryPath = \"file://var/mail/error\"\n";
+
+const NO_ATTEMPTS: &str = "delayTime = \"0*5 s\"\n[[processor]]\nname = \"error\"\n";
+
+/// A configuration in three parts, and what its fault line names; nothing where it is taken.
+const CONFIGURATIONS: [(&str, &str, &str, &str); 20] = [
     (SPOOL, ROOT, ERROR, ""),
-    ("", ERROR, ROOT, ""),
-    ("spool = 7\n", ROOT, ERROR, ""),
-    ("", "", "", "NotBuilt"),
-    (SPOOL, ROOT, "", "NotBuilt"),
-    ("other = 1\n", ROOT, ERROR, "NotBuilt"),
-    (
-        SPOOL,
-        ROOT,
-        "[[processor]]\nname = \"error\"\n[[processor.step]]\nmatch = \"RecipientIsLocal\"\n",
-        "NotBuilt",
-    ),
+    (SPOOL, ERROR, ROOT, ""),
+    ("processor = 1\n", SPOOL, "", "WrongType 0 0"),
+    ("", ROOT, ERROR, "Missing 0 0"),
+    (NO_POSTMASTER, ROOT, ERROR, "Missing 0 0"),
+    ("spool = 7\n", ROOT, ERROR, "WrongType 0 0"),
+    (SPOOL, "max_hops = 0\n", ROOT, "BadArgument 0 0"),
+    (SPOOL, ERROR, "", "NoRoot 0 0"),
     (
         SPOOL,
         ROOT,
         "[[processor]]\nname = \"errors\"\n",
-        "NotBuilt",
+        "NoError 0 0",
+    ),
+    (SPOOL, ROOT, ROOT, "Twice 2 0"),
+    (
+        SPOOL,
+        ROOT,
+        "[[processor]]\nname = \"error\"\n[[processor.step]]\nmatch = \"RecipientIsLocal\"\n",
+        "Missing 2 1",
     ),
     (
         SPOOL,
-        "[[processor]]\nname = \"root\"\n[[processor.step]]\nmatch = \"All\"\nclass = \"ToRepository\"\nrepositoryPath = \"a b\"\n",
+        "[[processor]]\nname = \"root\"\n[[processor.step]]\nmatch = \"All\"\nclass = \"ToProcessor\"\nprocessor = \"nowhere\"\n",
         ERROR,
-        "NotBuilt",
+        "UnknownProcessor 1 1",
     ),
     (
         SPOOL,
-        "[[processor]]\nname = \"root\"\nstep = 3\n",
+        "[[processor]]\nname = \"root\"\n[[processor.step]]\nmatch = \"All\"\nclass = \"ToRepository\"\nrepositoryPath = \"x\"\npassThrough = true\n",
         ERROR,
-        "NotBuilt",
+        "NotBuilt 1 1",
     ),
-    ("processor = \"root\"\n", "", "", "NotBuilt"),
-    ("[spool\n", ROOT, ERROR, "NotToml"),
+    (
+        SPOOL,
+        "[[processor]]\nname = \"root\"\n[[processor.step]]\nmatch = { Xor = [\"All\", \"All\", \"All\"] }\nclass = \"Null\"\n",
+        ERROR,
+        "BadArgument 1 1",
+    ),
+    (
+        SPOOL,
+        "[[processor]]\nname = \"root\"\n[[processor.step]]\nmatch = \"Foo\"\nclass = \"Null\"\n",
+        ERROR,
+        "UnknownMatcher 1 1",
+    ),
+    (
+        SPOOL,
+        "[[processor]]\nname = \"root\"\n[[processor.step]]\nmatch = \"All\"\nclass = \"Foo\"\n",
+        ERROR,
+        "UnknownClass 1 1",
+    ),
+    (SPOOL, SITE, DELAYS, "NotBuilt 2 1"),
+    (SPOOL, SITE, NO_ATTEMPTS, "BadArgument 2 3"),
+    (ERROR, TRANSPORT, ROOT, "Missing 0 0"),
+    ("[spool\n", ROOT, ERROR, "NotToml 0 0"),
 ];
 
 #[test]
 fn judges_each_configuration(rt: HostRuntime) -> Result<(), Fail> {
     let alloc = rt.alloc();
-    for (first, second, third, kind) in CONFIGURATIONS {
+    for (first, second, third, fault) in CONFIGURATIONS {
         let configuration = format!(in alloc; "{first}{second}{third}")?;
         let files = configured(alloc, configuration.as_str())?;
         let (status, text) = outcome(alloc, &["run"], files, &[], &[])?;
-        if kind.is_empty() {
+        if fault.is_empty() {
             assert_eq!(rt; status, 0, "{configuration}");
             assert!(rt; text.is_empty(), "{configuration}");
         } else {
-            let line = format!(in alloc; "fault config {kind} 0 0\n")?;
+            let line = format!(in alloc; "fault config {fault}\n")?;
             assert_eq!(rt; status, 3, "{configuration}");
             assert_eq!(rt; text.as_slice(), line.as_bytes(), "{configuration}");
         }
     }
+    let whole = format!(in alloc; "{SPOOL}{ERROR}{TRANSPORT}{ROOT}")?;
+    let files = configured(alloc, whole.as_str())?;
+    let (status, text) = outcome(alloc, &["run"], files, &[], &[])?;
+    assert_eq!(rt; status, 3);
+    assert_eq!(rt; text.as_slice(), b"fault config NotBuilt 2 1\n".as_slice());
     let (status, text) = outcome(alloc, &["run"], Items::new(alloc), &[], &[])?;
     assert_eq!(rt; status, 3);
     assert_eq!(rt; text.as_slice(), b"fault config NoFile 0 0\n".as_slice());
+    Ok(())
+}
+
+/// A processor `root` whose one step sends each mail to the processor `a`.
+const TO_A: &str =
+    "[[processor]]\nname = \"root\"\n[[processor.step]]\nmatch = \"All\"\nclass = \"ToProcessor\"\nprocessor = \"a\"\n[[processor]]\nname = \"a\"\n";
+
+/// What stands behind `[spool]` and what the processor `a` has, and the report of one mail.
+const PATHS: [(&str, &str, &str); 6] = [
+    ("", "", "1/1#1 felloff a ann@example.org\n"),
+    (
+        "",
+        "[[processor.step]]\nmatch = \"All\"\nclass = \"Null\"\n",
+        "1/1#1 dropped discarded ann@example.org\n",
+    ),
+    (
+        "",
+        "[[processor.step]]\nmatch = \"All\"\nclass = \"ToProcessor\"\nprocessor = \"ghost\"\n",
+        "1/1#1 dropped discarded ann@example.org\n",
+    ),
+    (
+        "",
+        "[[processor.step]]\nmatch = \"All\"\nclass = \"ToRepository\"\nrepositoryPath = \"x\"\n[[processor.step]]\nmatch = \"All\"\nclass = \"Null\"\n",
+        "1/1#1 deposit x ann@example.org 23\n",
+    ),
+    (
+        "max_hops = 3\n",
+        "[[processor.step]]\nmatch = \"All\"\nclass = \"ToProcessor\"\nprocessor = \"root\"\n",
+        "1/1/1/1#1 looped ann@example.org\n",
+    ),
+    (
+        "max_hops = 1\n",
+        "[[processor.step]]\nmatch = \"All\"\nclass = \"Null\"\n",
+        "1/1#1 looped ann@example.org\n",
+    ),
+];
+
+#[test]
+fn carries_mails_from_processor_to_processor(rt: HostRuntime) -> Result<(), Fail> {
+    let alloc = rt.alloc();
+    for (hops, steps, report) in PATHS {
+        let configuration = format!(in alloc; "{SPOOL}{hops}{TO_A}{steps}{ERROR}")?;
+        let mut files = configured(alloc, configuration.as_str())?;
+        put(alloc, &mut files, "mails/a.mail", ONE.as_bytes())?;
+        let (status, text) = outcome(alloc, &["run"], files, &[], &[])?;
+        assert_eq!(rt; status, 0, "{configuration}");
+        assert_eq!(rt; text.as_slice(), report.as_bytes(), "{configuration}");
+    }
     Ok(())
 }
 

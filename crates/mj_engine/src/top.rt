@@ -1,12 +1,14 @@
-ghost use Rattle.std.specs.Prelude.{◌≡◌, ◌⊎◌, ◌↔◌, ◌≤◌, List, ℕ, true, false, Ok, Err, IfSome};
+ghost use Rattle.std.specs.Prelude.{◌≡◌, ◌⊎◌, ◌↔◌, ◌≤◌, List, ℕ, true, false, Ok, Err, IfOk, IfSome};
 ghost use Rattle.mj_terms.specs.Causes.{Rose};
 ghost use Rattle.mj_io.specs.Grown.{grown};
 ghost use Rattle.mj_engine.specs.Run.{output, plan_in};
-ghost use Rattle.mj_engine.specs.Top.{is_run, is_status, usage_line, read_line, config_line, GrowsByLine, GrowsByFront};
+ghost use Rattle.mj_engine.specs.Top.{is_run, is_status, usage_line, read_line, config_line, kind_text, GrowsByLine, GrowsByFront};
 
-use crate::PlanKind;
 use crate::run::{RunFault, run};
+use mj_config::{PlanFault, PlanKind};
+use mj_fields::{Bytes, Memory};
 use mj_io::{Files, Sink};
+use mj_mail::put_number;
 use std::alloc::Global;
 
 /// The command was done.
@@ -41,7 +43,7 @@ pub fn james_one<F: Files, S: Sink>(
     // Which status comes when. Want of memory alone, 12, is free.
     ensures status { is_status result ≡ true }
     ensures words { (result ≡ 2) ↔ (is_run words.now.items ≡ false) }
-    ensures configuration { IfSome (F.told files.old) (λ told. (kind : PlanKind) → plan_in told ≡ Err kind
+    ensures configuration { IfSome (F.told files.old) (λ told. (fault : PlanFault) → plan_in told ≡ Err fault
         → is_run words.now.items ≡ true → (result ≡ 3) ⊎ ((result ≡ 5) ⊎ (result ≡ 12))) }
     ensures read { result ≡ 5 → Rose (F.faults files.old) (F.faults files.new) }
     ensures write { result ≡ 6 → Rose (S.faults out.old) (S.faults out.new) }
@@ -52,8 +54,9 @@ pub fn james_one<F: Files, S: Sink>(
     ensures report_front { result ≡ 6 → IfSome (F.told files.old) (λ told. (text : List ℕ) × (output told ≡ Ok text)
         × GrowsByFront (S.told out.old) (S.told out.new) text) }
     ensures usage_text { result ≡ 2 → GrowsByLine (S.told out.old) (S.told out.new) (S.faults out.old) (S.faults out.new) usage_line }
-    ensures config_text { result ≡ 3 → (kind : PlanKind) × IfSome (F.told files.old) (λ told. plan_in told ≡ Err kind)
-        × GrowsByLine (S.told out.old) (S.told out.new) (S.faults out.old) (S.faults out.new) (config_line kind) }
+    ensures config_text { result ≡ 3 → (kind : PlanKind) × (processor : ℕ) × (step : ℕ)
+        × IfSome (F.told files.old) (λ told. plan_in told ≡ Err (PlanFault.Refused kind processor step))
+        × GrowsByLine (S.told out.old) (S.told out.new) (S.faults out.old) (S.faults out.new) (config_line kind processor step) }
     ensures read_text { result ≡ 5 → GrowsByLine (S.told out.old) (S.told out.new) (S.faults out.old) (S.faults out.new) read_line }
     ensures nothing { result ≡ 12 → S.told out.new ≡ S.told out.old }
 
@@ -68,10 +71,19 @@ pub fn james_one<F: Files, S: Sink>(
     }
     match run(alloc, files) {
         Ok(text) => write_report(out, text.as_slice()),
-        Err(RunFault::Refused(kind)) => {
-            put_line(out, config_fault(kind));
-            CONFIGURATION
-        }
+        Err(
+            RunFault::Refused {
+                kind,
+                processor,
+                step,
+            },
+        ) => match config_fault(alloc, kind, processor, step) {
+            Ok(line) => {
+                put_line(out, line.as_slice());
+                CONFIGURATION
+            }
+            Err(_) => MEMORY,
+        },
         Err(RunFault::Read) => {
             put_line(out, read_fault());
             READ
@@ -124,12 +136,41 @@ fn read_fault() -> &'static [u8]
     b"fault read\n"
 }
 
-fn config_fault(kind: PlanKind) -> &'static [u8]
-    ensures { result.now ≡ config_line kind }
+/// The line for a configuration that is missing or refused.
+fn config_fault(alloc: Global, kind: PlanKind, processor: u32, step: u32) -> Result<Bytes, Memory>
+    ensures { IfOk result (λ line. line ≡ config_line kind processor step) }
+{
+    let mut line = Bytes::from_slice(alloc, b"fault config ")?;
+    line.extend(kind_name(kind))?;
+    line.push(b' ')?;
+    put_number(alloc, &mut line, u64::from(processor))?;
+    line.push(b' ')?;
+    put_number(alloc, &mut line, u64::from(step))?;
+    line.push(b'\n')?;
+    Ok(line)
+}
+
+fn kind_name(kind: PlanKind) -> &'static [u8]
+    ensures { result.now ≡ kind_text kind }
 {
     match kind {
-        PlanKind::NoFile => b"fault config NoFile 0 0\n",
-        PlanKind::NotToml => b"fault config NotToml 0 0\n",
-        PlanKind::NotBuilt => b"fault config NotBuilt 0 0\n",
+        PlanKind::NoFile => b"NoFile",
+        PlanKind::TooLarge => b"TooLarge",
+        PlanKind::NotToml => b"NotToml",
+        PlanKind::Missing => b"Missing",
+        PlanKind::WrongType => b"WrongType",
+        PlanKind::BadAddress => b"BadAddress",
+        PlanKind::BadMoment => b"BadMoment",
+        PlanKind::NoRoot => b"NoRoot",
+        PlanKind::NoError => b"NoError",
+        PlanKind::Twice => b"Twice",
+        PlanKind::ReservedState => b"ReservedState",
+        PlanKind::UnknownClass => b"UnknownClass",
+        PlanKind::UnknownMatcher => b"UnknownMatcher",
+        PlanKind::BadArgument => b"BadArgument",
+        PlanKind::UnknownProcessor => b"UnknownProcessor",
+        PlanKind::TooDeep => b"TooDeep",
+        PlanKind::TooMany => b"TooMany",
+        PlanKind::NotBuilt => b"NotBuilt",
     }
 }

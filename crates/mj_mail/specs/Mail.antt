@@ -11,15 +11,17 @@ use Rattle.mj_head.specs.Head.{written}
 abbrev pub root : List ℕ
 root = codes "root"
 
--- the mail that is accepted under a number: in `root`, with the body that came in
-abbrev pub first : ℕ → NewMail → Mail
-first number new = record {
+-- the mail that is accepted under a number: in `root`, with the body that came in, without hops and due at the start
+abbrev pub first : ℕ → ℕ → NewMail → Mail
+first start number new = record {
   name = record { number = number; path = [] };
   sender = new.sender;
   recipients = new.recipients;
   stage = Process root;
   head = new.head;
   body = Original number (length new.body);
+  hops = 0;
+  due = start;
 }
 
 -- how many bytes a body has

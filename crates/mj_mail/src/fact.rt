@@ -3,6 +3,13 @@ use mj_address::{Address, Recipients};
 use mj_fields::{Bytes, Items};
 use mj_head::Head;
 
+/// Why a mail was dropped.
+#[derive(Clone, Copy, Debug, PartialEq, Eq)]
+pub enum Why {
+    /// It was sent to the state `ghost`, in which all processing ends.
+    Discarded,
+}
+
 /// What has happened to a mail.
 #[derive(Debug, Drop)]
 pub enum Fact {
@@ -13,6 +20,20 @@ pub enum Fact {
         recipients: Recipients,
         head: Head,
         body: Body,
+    },
+    /// It was given up for these recipients.
+    Dropped {
+        why: Why,
+        recipients: Recipients,
+    },
+    /// It came past the last step of this processor.
+    FellOff {
+        processor: Bytes,
+        recipients: Recipients,
+    },
+    /// It has been sent from processor to processor too often.
+    Looped {
+        recipients: Recipients,
     },
 }
 

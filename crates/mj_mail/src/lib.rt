@@ -6,7 +6,7 @@ mod fact;
 mod mail;
 mod name;
 
-pub use fact::{Fact, Outcome};
+pub use fact::{Fact, Outcome, Why};
 pub use mail::{Body, Mail, NewMail, Stage};
 pub use name::{Name, name_text, put_number};
 

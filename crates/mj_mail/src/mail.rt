@@ -40,6 +40,10 @@ pub struct Mail {
     pub stage: Stage,
     pub head: Head,
     pub body: Body,
+    /// How often it was sent to a processor.
+    pub hops: u32,
+    /// When it is due, in milliseconds since 1970-01-01T00:00:00Z.
+    pub due: u64,
 }
 
 impl Body {
@@ -54,10 +58,10 @@ impl Body {
 }
 
 impl NewMail {
-    /// The mail that is accepted under this number: it waits for the processor `root`.
-    pub fn into_first(self, alloc: Global, number: u64) -> Result<Mail, Memory>
+    /// The mail that is accepted under this number: it waits for the processor `root`, and is due at `start`.
+    pub fn into_first(self, alloc: Global, start: u64, number: u64) -> Result<Mail, Memory>
         requires { length self.body < 2 ^ 32 }
-        ensures { IfOk result (λ mail. mail ≡ first number self) }
+        ensures { IfOk result (λ mail. mail ≡ first start number self) }
     {
         let length = self.body.len() as u32;
         Ok(Mail {
@@ -70,6 +74,8 @@ impl NewMail {
             stage: Stage::Process(Bytes::from_slice(alloc, b"root")?),
             head: self.head,
             body: Body::Original { number, length },
+            hops: 0,
+            due: start,
         })
     }
 }

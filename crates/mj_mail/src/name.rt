@@ -18,13 +18,10 @@ impl Name {
     pub fn copy(&self, alloc: Global) -> Result<Name, Memory>
         ensures { IfOk result (λ name. name ≡ self.now) }
     {
-        let mut path = Items::new(alloc);
-        for member in self.path.as_slice() {
-            path.push(*member)?;
-        }
+        let path = Vec::from_slice(alloc, self.path.as_slice())?;
         Ok(Name {
             number: self.number,
-            path,
+            path: Items::from_vec(path),
         })
     }
 }

@@ -1,0 +1,21 @@
+use Rattle.std.proofs.Common.{◌≡◌, ◌∙◌, Err, subst}
+use Rattle.std.proofs.lemmas.Option.{IfSome_then}
+use Rattle.mj_config.specs.declared.fault.PlanFault.TheVariants.{Refused}
+use Rattle.mj_engine.specs.Run.{GivesOutput, output}
+use Rattle.mj_engine.specs.Top.{GrowsByLine}
+use Rattle.mj_engine.proofs.Names.{refused_plan}
+use Rattle.mj_engine.proofs.top.james_one.Goals as goal
+
+pub returns-in-Ok-config_fault-clause-config_text : goal.returns-in-Ok-config_fault-clause-config_text
+returns-in-Ok-config_fault-clause-config_text g c =
+    let kind = c.in-Err-Refused.kind in
+    let processor = c.in-Err-Refused.processor in
+    let step = c.in-Err-Refused.step in
+    λ _. (
+      kind,
+      processor,
+      step,
+      IfSome_then (g.F.Files.told c.args.files.now) c.in-Err-Refused.ensures.exact (λ told read. refused_plan told (Refused kind processor step) (subst (λ fault. GivesOutput (Err fault) (output told)) c.in-Err-Refused.field-0-is read)),
+      subst (GrowsByLine (g.S.Sink.told c.args.out.now) (g.S.Sink.told c.put_line-in-Ok-config_fault.new.out) (g.S.Sink.faults c.args.out.now) (g.S.Sink.faults c.put_line-in-Ok-config_fault.new.out))
+          (c.as_slice-in-Ok-config_fault.ensures ∙ c.in-Ok-config_fault.ensures) c.put_line-in-Ok-config_fault.ensures.line,
+    )
