@@ -3,22 +3,29 @@
 
 Shapes:
   small       N mails with bodies of BYTES: mails per second, MB/s of mail files, peak memory, the time against
-              that of one `cat` over the same files, and the time at 10 N mails against that at N
+              that of one `cat` over the same files, and the time at 10 N mails against that at N, beside cat's
   large       one mail file of 16 MiB: peak memory above that of an empty run, as a multiple of the file's size
   rate        200 mail files of 1 MB: MB/s, beside cat's
   heads       mails with long heads, 200 of each kind: one field of 65,000 bytes, 13,000 fields, and one field with
               thousands of continuation lines; the time of each against that of mails of the same length with a short
-              head, and against that of the one long field
+              head
   recipients  mails with bodies of BYTES and 1 or 500 recipients, 200 of each, and 1 recipient at the file length of
               those with 500: the time of each against that of the first
+  hops        20 mails of BYTES that loop through 100 hops, and through 1,000: the time of a mail against that at 100
+  processors  N / 10 and N mails that go through three processors: the time against that of N / 10
+  plan        a configuration of 1 MB in many steps, and one in many rows of `[[rewrite]]`, with no mail: the time above
+              that of an empty run, against what `toml` alone takes for the same bytes, and the peak memory above that
+              of an empty run
 
-Each time is the wall clock's, the best of several rounds, with the files in the page cache; a run begins with nothing
-but `conf` and `mails` in its folder. Peak memory is the worst round's ru_maxrss; it can't be told below that of the
-shell that starts the program (about 1 MiB). MB are 1,000,000 bytes. An empty run has a folder without mails. `cat` is
-started by `xargs -0`, which takes several of them for more than some ten thousand files.
+A round runs every folder of a shape once, one after the other, so that what slows the machine for a while slows them
+alike. Each time is the wall clock's, the best of the rounds; each ratio is the median of the rounds' own. The files are
+in the page cache, and a run begins with nothing but `conf` and `mails` in its folder. Peak memory is the worst round's
+ru_maxrss; it can't be told below that of the shell that starts the program (about 1 MiB). MB are 1,000,000 bytes. An
+empty run has a folder without mails. `cat` is started by `xargs -0`, which takes several of them for more than some ten
+thousand files. `toml` alone is the program of crates/toml_yardstick, which reads the file and parses it.
 
 The status is 1 where a run doesn't end with status 0, doesn't report one line a mail, or refuses a mail. Linux only.
-By default some 400 MB are needed in the temporary directory (TMPDIR says where).
+By default some 500 MB are needed in the temporary directory (TMPDIR says where).
 """
 
 import argparse
@@ -26,6 +33,7 @@ import ctypes
 import os
 import shutil
 import signal
+import statistics
 import subprocess
 import sys
 import tempfile
@@ -52,8 +60,33 @@ repositoryPath = "file://var/mail/in"
 name = "error"
 """
 
-PROGRAM = Path(__file__).resolve().parents[1] / "crates/james_cli/out/james_cli"
-SHAPES = ("small", "large", "rate", "heads", "recipients")
+# What stands before the processors.
+SPOOL = CONFIGURATION[: CONFIGURATION.index("[[processor]]")]
+
+
+def processor(name, *steps):
+    """A processor whose steps match all; a step is its lines behind `match`."""
+    tables = "".join(f'[[processor.step]]\nmatch = "All"\n{step}\n' for step in steps)
+    return f'[[processor]]\nname = "{name}"\n{tables}'
+
+
+def to_processor(name):
+    return f'class = "ToProcessor"\nprocessor = "{name}"'
+
+
+TO_REPOSITORY = 'class = "ToRepository"\nrepositoryPath = "file://var/mail/in"'
+
+# A mail goes from `root` to `root` again.
+LOOP = processor("root", to_processor("root")) + processor("error")
+
+# A mail goes through three processors to a repository.
+CHAIN = (processor("root", to_processor("second")) + processor("second", to_processor("third"))
+         + processor("third", TO_REPOSITORY) + processor("error"))
+
+CRATES = Path(__file__).resolve().parents[1] / "crates"
+PROGRAM = CRATES / "james_cli/out/james_cli"
+YARDSTICK = CRATES / "toml_yardstick/out/toml_yardstick"
+SHAPES = ("small", "large", "rate", "heads", "recipients", "hops", "processors", "plan")
 
 MAX_FILE = 16_777_216
 LONG_HEAD = 65_000
@@ -108,6 +141,15 @@ def long_heads():
     }
 
 
+def long_configurations():
+    """Configurations of about 1 MB: 100 processors of 140 steps each, and rows of 90 targets each."""
+    names = ["root", "error"] + [f"p{number}" for number in range(2, 100)]
+    processors = "".join(processor(name, *[to_processor("p99")] * 140) for name in names)
+    targets = ", ".join(f'"u{number}@example.net"' for number in range(90))
+    rows = "".join(f'[[rewrite]]\nfrom = "a{number}@example.org"\nto = [{targets}]\n' for number in range(560))
+    return {"many steps": SPOOL + processors, "many targets": SPOOL + rows + CHAIN}
+
+
 # ---- Runs
 
 
@@ -130,10 +172,11 @@ def wait_for(process):
 
 
 class Folder:
-    """A folder to run the program in: `conf`, `mails`, and what the program makes of them."""
+    """A folder to run a program in, which is `james` if no other is given: `conf`, `mails`, and what it makes of them."""
 
-    def __init__(self, bench, name):
+    def __init__(self, bench, name, configuration=CONFIGURATION, program=None):
         self.bench = bench
+        self.program = program or bench.james
         self.path = bench.root / name
         self.mails = self.path / "mails"
         self.report = bench.root / f"{name}.report"
@@ -141,7 +184,7 @@ class Folder:
         self.size = 0
         self.mails.mkdir(parents=True)
         (self.path / "conf").mkdir()
-        (self.path / "conf/mailetcontainer.toml").write_text(CONFIGURATION)
+        (self.path / "conf/mailetcontainer.toml").write_text(configuration)
 
     def add(self, count, content):
         """Adds so many mails with this content."""
@@ -158,19 +201,9 @@ class Folder:
         subprocess.run(command, cwd=self.mails, input=names, stdout=subprocess.DEVNULL, check=True)
         return time.perf_counter() - start
 
-    def cat(self):
-        """The best time in which `cat` reads the mails from the page cache."""
-        self.read_all()
-        return min(self.read_all() for _ in range(self.bench.rounds))
-
-    def james(self):
-        """The best time and the worst peak of the program's runs."""
-        runs = [self.run_once() for _ in range(self.bench.rounds)]
-        return Run(min(run.seconds for run in runs), max(run.peak for run in runs))
-
     def run_once(self):
         self.clear()
-        command = ["sh", "-c", START_PROGRAM, "sh", self.bench.james, self.report]
+        command = ["sh", "-c", START_PROGRAM, "sh", self.program, self.report]
         pipe = subprocess.PIPE
         with subprocess.Popen(command, cwd=self.path, stdin=pipe, stdout=pipe) as shell:
             process = int(shell.stdout.read())
@@ -181,6 +214,9 @@ class Folder:
             seconds = time.perf_counter() - start
         self.check(status)
         return Run(seconds, usage.ru_maxrss)
+
+    def cat_once(self):
+        return Run(self.read_all(), 0)
 
     def clear(self):
         """Removes what earlier runs left."""
@@ -220,9 +256,30 @@ def times(ratio):
     return f"{ratio:.2f} x"
 
 
+def rounds_of(count, *runs):
+    """What each of these runs took in each round, where a round makes all of them in turn."""
+    return [[run() for run in runs] for _ in range(count)]
+
+
+def best(rounds, run):
+    """The best time and the worst peak of a run."""
+    return Run(min(each[run].seconds for each in rounds), max(each[run].peak for each in rounds))
+
+
+def ratio(rounds, run, by, above=None):
+    """The median over the rounds of a run's time by another's, each above that of an empty run where two are given."""
+    empty, empty_by = above or (None, None)
+
+    def seconds(each, at, without):
+        return each[at].seconds - (0 if without is None else each[without].seconds)
+
+    return statistics.median(seconds(each, run, empty) / seconds(each, by, empty_by) for each in rounds)
+
+
 class Bench:
     def __init__(self, given, root):
         self.james = given.james.resolve()
+        self.yardstick = given.yardstick.resolve()
         self.rounds = given.rounds
         self.keep = given.keep
         self.mails = given.mails
@@ -230,9 +287,19 @@ class Bench:
         self.root = root
         self.empty = Run(0, 0)
 
+    def folder(self, name, content=b"", count=0, configuration=CONFIGURATION, program=None):
+        """A folder with so many mails of this content, which are in the page cache."""
+        folder = Folder(self, name.replace(" ", "-"), configuration, program)
+        folder.add(count, content)
+        folder.read_all()
+        return folder
+
+    def measure(self, *runs):
+        return rounds_of(self.rounds, *runs)
+
     def measure_empty(self):
-        folder = Folder(self, "empty")
-        self.empty = folder.james()
+        folder = self.folder("empty")
+        self.empty = best(self.measure(folder.run_once), 0)
         folder.remove()
         title("empty run")
         row("time", f"{self.empty.seconds * 1000:.1f} ms")
@@ -245,65 +312,60 @@ class Bench:
         row("peak memory", f"{run.peak:,} KiB")
         row("  above the empty run", f"{self.above_empty(run):,} KiB")
 
-    def row_rate(self, folder, run, cat):
+    def row_rate(self, folder, rounds):
+        """The rates of the rounds whose first run is the program's and whose second is cat's."""
+        run, cat = best(rounds, 0), best(rounds, 1)
         row("MB/s of mail files", f"{folder.size / run.seconds / 1e6:,.1f}")
-        row("  cat's", f"{folder.size / cat / 1e6:,.1f}")
-        row("time against cat", times(run.seconds / cat))
+        row("  cat's", f"{folder.size / cat.seconds / 1e6:,.1f}")
+        row("time against cat", times(ratio(rounds, 0, 1)))
 
     def small(self):
-        folder = Folder(self, "small")
-        folder.add(self.mails, mail(body_size=self.body_size))
-        cat, run = folder.cat(), folder.james()
+        content = mail(body_size=self.body_size)
+        few = self.folder("small", content, self.mails)
+        many = self.folder("small by ten", content, 10 * self.mails)
+        rounds = self.measure(few.run_once, few.cat_once, many.run_once, many.cat_once)
+        run = best(rounds, 0)
         title(f"small: {self.mails:,} mails, bodies of {self.body_size:,} bytes")
         row("mails per second", f"{self.mails / run.seconds:,.0f}")
-        self.row_rate(folder, run, cat)
+        self.row_rate(few, rounds)
         self.row_peak(run)
-
-        folder.add(9 * self.mails, mail(body_size=self.body_size))
-        folder.read_all()
-        more = folder.james()
-        row(f"time at {10 * self.mails:,} mails against this", times(more.seconds / run.seconds))
-        folder.remove()
+        row(f"time at {10 * self.mails:,} mails against this", times(ratio(rounds, 2, 0)))
+        row("  cat's", times(ratio(rounds, 3, 1)))
+        few.remove()
+        many.remove()
 
     def large(self):
-        folder = Folder(self, "large")
-        folder.add(1, mail_of_size(MAX_FILE))
-        cat, run = folder.cat(), folder.james()
+        folder = self.folder("large", mail_of_size(MAX_FILE), 1)
+        rounds = self.measure(folder.run_once, folder.cat_once)
+        run = best(rounds, 0)
         title("large: one mail file of 16 MiB")
-        self.row_rate(folder, run, cat)
+        self.row_rate(folder, rounds)
         self.row_peak(run)
         row("  as a multiple of the file's size", times(self.above_empty(run) * 1024 / MAX_FILE))
         folder.remove()
 
     def rate(self):
-        folder = Folder(self, "rate")
-        folder.add(200, mail_of_size(1_000_000))
-        cat, run = folder.cat(), folder.james()
+        folder = self.folder("rate", mail_of_size(1_000_000), 200)
+        rounds = self.measure(folder.run_once, folder.cat_once)
         title("rate: 200 mail files of 1 MB")
-        self.row_rate(folder, run, cat)
-        self.row_peak(run)
+        self.row_rate(folder, rounds)
+        self.row_peak(best(rounds, 0))
         folder.remove()
 
-    def time_copies(self, name, content):
-        """The best time over copies of one mail."""
-        folder = Folder(self, name.replace(" ", "-"))
-        folder.add(COPIES, content)
-        folder.read_all()
-        seconds = folder.james().seconds
-        folder.remove()
-        return seconds
+    def compare(self, mails, heading, columns, cells):
+        """Prints for copies of each mail their time, and that against the first's. `cells` tells more of a mail."""
+        folders = {name: self.folder(name, content, COPIES) for name, content in mails.items()}
+        rounds = self.measure(*[folder.run_once for folder in folders.values()])
+        title(heading, *columns, "time", f"by {next(iter(mails))}")
+        for at, (name, folder) in enumerate(folders.items()):
+            row(name, *cells(mails[name]), f"{best(rounds, at).seconds:.3f} s", times(ratio(rounds, at, 0)))
+            folder.remove()
 
     def heads(self):
         mails = {name: mail(head) for name, head in long_heads().items()}
         size = len(mails["one field"])
-        short = self.time_copies("short head", mail_of_size(size))
-        title(f"heads: {COPIES} mails of {size:,} bytes", "time", "by short head", "by one field")
-        row("short head", f"{short:.3f} s", times(1))
-        one_field = None
-        for name, content in mails.items():
-            seconds = self.time_copies(name, content)
-            one_field = one_field or seconds
-            row(name, f"{seconds:.3f} s", times(seconds / short), times(seconds / one_field))
+        mails = {"short head": mail_of_size(size), **mails}
+        self.compare(mails, f"heads: {COPIES} mails of {size:,} bytes", (), lambda _: ())
 
     def recipients(self):
         many = mail(recipients=500, body_size=self.body_size)
@@ -312,12 +374,48 @@ class Bench:
             "1 recipient, long body": mail_of_size(len(many)),
             "500 recipients": many,
         }
-        title(f"recipients: {COPIES} mails of each", "file length", "time", "by 1 recipient")
-        one = None
-        for name, content in mails.items():
-            seconds = self.time_copies(name, content)
-            one = one or seconds
-            row(name, f"{len(content):,}", f"{seconds:.3f} s", times(seconds / one))
+        heading = f"recipients: {COPIES} mails of each"
+        self.compare(mails, heading, ("file length",), lambda content: (f"{len(content):,}",))
+
+    def hops(self):
+        counts = (100, 1_000)
+        content = mail(body_size=self.body_size)
+        folders = [self.folder("empty")]
+        folders += [self.folder(f"hops {hops}", content, 20, f"{SPOOL}max_hops = {hops}\n{LOOP}") for hops in counts]
+        rounds = self.measure(*[folder.run_once for folder in folders])
+        title("hops: 20 mails that loop", "a mail", "by 100 hops")
+        for at, hops in enumerate(counts, 1):
+            seconds = (best(rounds, at).seconds - best(rounds, 0).seconds) / 20
+            row(f"{hops:,} hops", f"{seconds * 1e6:,.1f} us", times(ratio(rounds, at, 1, above=(0, 0))))
+        for folder in folders:
+            folder.remove()
+
+    def processors(self):
+        content = mail(body_size=self.body_size)
+        counts = (max(self.mails // 10, 1), self.mails)
+        folders = [self.folder(f"processors {count}", content, count, SPOOL + CHAIN) for count in counts]
+        rounds = self.measure(*[folder.run_once for folder in folders])
+        title("processors: mails through three processors", "time", "by the first")
+        for at, folder in enumerate(folders):
+            row(f"{folder.count:,} mails", f"{best(rounds, at).seconds:.3f} s", times(ratio(rounds, at, 0)))
+            folder.remove()
+
+    def plan(self):
+        """Each configuration is read by `james` and by the yardstick, beside an empty run of both."""
+        configurations = {"": CONFIGURATION, **long_configurations()}
+        programs = {"james": self.james, "toml": self.yardstick}
+        folders = [self.folder(f"{program} {name}", configuration=configuration, program=path)
+                   for name, configuration in configurations.items() for program, path in programs.items()]
+        rounds = self.measure(*[folder.run_once for folder in folders])
+        empty = best(rounds, 0)
+        title("plan: a configuration of about 1 MB", "bytes", "time", "by toml alone", "memory")
+        for at, name in enumerate(configurations):
+            if name:
+                run = best(rounds, 2 * at)
+                row(name, f"{len(configurations[name]):,}", f"{(run.seconds - empty.seconds) * 1000:.1f} ms",
+                    times(ratio(rounds, 2 * at, 2 * at + 1, above=(0, 1))), f"{run.peak - empty.peak:,} KiB")
+        for folder in folders:
+            folder.remove()
 
 
 def arguments():
@@ -327,15 +425,19 @@ def arguments():
     parser.add_argument("--mails", type=int, default=10_000, metavar="N", help="mails of `small` (default 10000)")
     parser.add_argument("--size", type=int, default=1000, metavar="BYTES",
                         help="size of the bodies of `small` and `recipients` (default 1000)")
-    parser.add_argument("--rounds", type=int, default=3, metavar="ROUNDS", help="runs for each time (default 3)")
+    parser.add_argument("--rounds", type=int, default=7, metavar="ROUNDS", help="runs for each time (default 7)")
     parser.add_argument("--james", type=Path, default=PROGRAM, metavar="PATH",
                         help="the built program (default: the repository's crates/james_cli/out/james_cli)")
+    parser.add_argument("--yardstick", type=Path, default=YARDSTICK, metavar="PATH",
+                        help="the built program that only parses TOML (default: that of crates/toml_yardstick)")
     parser.add_argument("--keep", action="store_true", help="keep the folders and say where they are")
     given = parser.parse_args()
     if given.mails < 1 or given.size < 0 or given.rounds < 1:
         parser.error("N and ROUNDS are at least 1, BYTES at least 0")
-    if not os.access(given.james, os.X_OK):
-        parser.error(f"no program at {given.james}")
+    given.shape = given.shape or SHAPES
+    for program in [given.james] + [given.yardstick] * ("plan" in given.shape):
+        if not os.access(program, os.X_OK):
+            parser.error(f"no program at {program}")
     return given
 
 
@@ -346,7 +448,7 @@ def main():
         adopt_orphans()
         bench = Bench(given, root)
         bench.measure_empty()
-        for shape in given.shape or SHAPES:
+        for shape in given.shape:
             getattr(bench, shape)()
     except Fault as fault:
         sys.exit(f"bench: {fault}")
