@@ -6,7 +6,7 @@ use Rattle.mj_plan.specs.Sound.{outgoing_of}
 use Rattle.toml.specs.Data.{Members}
 use Rattle.mj_plan.specs.declared.plan.Step.{Step}
 use Rattle.mj_config.specs.declared.fault.PlanFault.{PlanFault}
-use Rattle.mj_config.specs.Walk.{◌then◌, Header, deliveries, header_of, headers_from, located, processors_from, step_of, steps_from}
+use Rattle.mj_config.specs.Walk.{◌then◌, deliveries, located, step_of, steps_from}
 
 abbrev pub in_turn : {X : Type 0} → List X → Result (List X) PlanFault → Result (List X) PlanFault
 in_turn so_far rest = rest then λ xs. Ok (so_far ++ xs)
@@ -17,7 +17,7 @@ pub in_turn_next : {X : Type 0} (so_far : List X) (x : X) (rest : Result (List X
 in_turn_next so_far x (Ok xs) = rw (append_assoc so_far (x ∷ []) xs)
 in_turn_next so_far x (Err fault) = refl
 
--- A walk over a list, whose step says what is read of its front, and what the rest is then. The front is read:
+-- A walk over a list, whose step says what is read of its front, and what the rest is then.
 pub next_read : {R A X : Type 0} (walk : List A → Result (List X) PlanFault) (rest : Result (List X) PlanFault) (seen : R → A) (list : List R) (k : ℕ) (r : R) (so_far more : List X) (x : X)
     → k < length list → r ≡ get_or list k r → (walk (seen r ∷ map seen (drop (k + 1) list)) ≡ (rest then λ xs. Ok (x ∷ xs))) → more ≡ so_far ++ x ∷ []
     → in_turn so_far (walk (map seen (drop k list))) ≡ in_turn more rest
@@ -28,41 +28,10 @@ next_read walk rest seen list k r so_far more x within at read grown =
     ∙ in_turn_next so_far x rest
     ∙ ap (λ xs. in_turn xs rest) (sym grown)
 
--- and it is refused:
-pub next_not : {R A X : Type 0} (walk : List A → Result (List X) PlanFault) (seen : R → A) (list : List R) (k : ℕ) (r : R) (so_far : List X) (fault : PlanFault)
-    → k < length list → r ≡ get_or list k r → walk (seen r ∷ map seen (drop (k + 1) list)) ≡ Err fault
-    → in_turn so_far (walk (map seen (drop k list))) ≡ Err fault
-next_not walk seen list k r so_far fault within at read =
-    at_drop_more (λ left. in_turn so_far (walk (map seen left))) list k r within
-    ∙ ap (λ a. in_turn so_far (walk (seen a ∷ map seen (drop (k + 1) list)))) (sym at)
-    ∙ ap (in_turn so_far) read
-
--- headers
-pub header_read : (place : ℕ) (earlier : List (List ℕ)) (header : Header) (table : Members) (rest : List Members) → located place 0 (header_of earlier table) ≡ Ok header
-    → headers_from place earlier (table ∷ rest) ≡ (headers_from (place + 1) (earlier ++ header.name ∷ []) rest then λ headers. Ok (header ∷ headers))
-header_read place earlier header table rest read = rw read
-
-pub header_not : (place : ℕ) (earlier : List (List ℕ)) (fault : PlanFault) (table : Members) (rest : List Members) → located place 0 (header_of earlier table) ≡ Err fault
-    → headers_from place earlier (table ∷ rest) ≡ Err fault
-header_not place earlier fault table rest read = rw read
-
--- steps
+-- steps: the first one is read
 pub step_read : (names taken : List (List ℕ)) (processor number : ℕ) (step : Step) (table : Members) (rest : List Members) → located processor number (step_of names taken table) ≡ Ok step
     → steps_from names taken processor number (table ∷ rest) ≡ (steps_from names (taken ++ deliveries (step ∷ [])) processor (number + 1) rest then λ steps. Ok (step ∷ steps))
 step_read names taken processor number step table rest read = rw read
-
-pub step_not : (names taken : List (List ℕ)) (processor number : ℕ) (fault : PlanFault) (table : Members) (rest : List Members) → located processor number (step_of names taken table) ≡ Err fault
-    → steps_from names taken processor number (table ∷ rest) ≡ Err fault
-step_not names taken processor number fault table rest read = rw read
-
--- processors
-pub processor_read : (names taken : List (List ℕ)) (number : ℕ) (steps : List Step) (header : Header) (rest : List Header) → steps_from names taken number 1 header.steps ≡ Ok steps
-    → processors_from names taken number (header ∷ rest) ≡ (processors_from names (taken ++ deliveries steps) (number + 1) rest then λ processors. Ok (record { name = header.name; steps = steps } ∷ processors))
-processor_read names taken number steps header rest read = rw read
-
-pub processor_not : (names taken : List (List ℕ)) (number : ℕ) (fault : PlanFault) (header : Header) (rest : List Header) → steps_from names taken number 1 header.steps ≡ Err fault
-    → processors_from names taken number (header ∷ rest) ≡ Err fault
-processor_not names taken number fault header rest read = rw read
 
 -- one step more, and the names of remote deliveries that are taken then
 pub deliveries_more : (before taken : List (List ℕ)) (steps more : List Step) (step : Step) → taken ≡ before ++ deliveries steps → more ≡ steps ++ step ∷ []

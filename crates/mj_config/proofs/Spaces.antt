@@ -5,10 +5,6 @@ use Rattle.mj_config.specs.Matchers.{before, behind, words}
 use Rattle.mj_config.specs.Rest.{words_in}
 use Rattle.mj_config.specs.Values.{is_filled}
 
--- a space in front is no part of a word
-pub spaced : (s : List ℕ) → words (32 ∷ s) ≡ words s
-spaced s = refl
-
 others : (rest : Option (List ℕ)) → filter is_filled (parts_in 32 rest) ≡ words_in rest
 others None = refl
 others (Some s) = refl

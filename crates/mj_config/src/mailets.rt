@@ -40,6 +40,32 @@ enum Class {
     Fail,
 }
 
+/// The names of all classes.
+const CLASSES: [(&str, Class); 19] = [
+    ("ToProcessor", Class::ToProcessor),
+    ("Null", Class::Null),
+    ("SetMailAttribute", Class::SetMailAttribute),
+    ("RemoveMailAttribute", Class::RemoveMailAttribute),
+    ("RemoveAllMailAttributes", Class::RemoveAllMailAttributes),
+    ("SetMimeHeader", Class::SetMimeHeader),
+    ("RemoveMimeHeader", Class::RemoveMimeHeader),
+    (
+        "MailAttributesToMimeHeaders",
+        Class::MailAttributesToMimeHeaders,
+    ),
+    ("AddSubjectPrefix", Class::AddSubjectPrefix),
+    ("RecipientToLowerCase", Class::RecipientToLowerCase),
+    ("PostmasterAlias", Class::PostmasterAlias),
+    ("RecipientRewriteTable", Class::RecipientRewriteTable),
+    ("Forward", Class::Forward),
+    ("Bounce", Class::Bounce),
+    ("NotifyPostmaster", Class::NotifyPostmaster),
+    ("LocalDelivery", Class::LocalDelivery),
+    ("ToRepository", Class::ToRepository),
+    ("RemoteDelivery", Class::RemoteDelivery),
+    ("Fail", Class::Fail),
+];
+
 /// The mailet of a class, with the parameters of the step, where these processors are there and these names of remote
 /// deliveries are taken.
 #[tactic(auto, using(crate::proofs::Rows::mailet_of_rows))]
@@ -96,33 +122,7 @@ fn of_class(
 fn class_of(name: &[u8]) -> Option<Class>
     ensures { result ≡ class_in class_rows name.now }
 {
-    class_in(
-        &[
-            ("ToProcessor", Class::ToProcessor),
-            ("Null", Class::Null),
-            ("SetMailAttribute", Class::SetMailAttribute),
-            ("RemoveMailAttribute", Class::RemoveMailAttribute),
-            ("RemoveAllMailAttributes", Class::RemoveAllMailAttributes),
-            ("SetMimeHeader", Class::SetMimeHeader),
-            ("RemoveMimeHeader", Class::RemoveMimeHeader),
-            (
-                "MailAttributesToMimeHeaders",
-                Class::MailAttributesToMimeHeaders,
-            ),
-            ("AddSubjectPrefix", Class::AddSubjectPrefix),
-            ("RecipientToLowerCase", Class::RecipientToLowerCase),
-            ("PostmasterAlias", Class::PostmasterAlias),
-            ("RecipientRewriteTable", Class::RecipientRewriteTable),
-            ("Forward", Class::Forward),
-            ("Bounce", Class::Bounce),
-            ("NotifyPostmaster", Class::NotifyPostmaster),
-            ("LocalDelivery", Class::LocalDelivery),
-            ("ToRepository", Class::ToRepository),
-            ("RemoteDelivery", Class::RemoteDelivery),
-            ("Fail", Class::Fail),
-        ],
-        name,
-    )
+    class_in(&CLASSES, name)
 }
 
 /// The class that stands behind this name in the rows.

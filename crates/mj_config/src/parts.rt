@@ -12,21 +12,7 @@ use mj_fields::{Bytes, Items};
 use mj_head::trim_blanks;
 use std::alloc::Global;
 
-/// The text up to the first such byte, or the whole text.
-pub(crate) fn before(sign: u8, text: &[u8]) -> &[u8]
-    ensures { result.now ≡ before sign text.now }
-{
-    cut(sign, text).0
-}
-
-/// What stands behind the first such byte, if there is one.
-pub(crate) fn behind(sign: u8, text: &[u8]) -> Option<&[u8]>
-    ensures { option_copied result ≡ behind sign text.now }
-{
-    cut(sign, text).1
-}
-
-/// Both of these.
+/// The text up to the first such byte, or the whole text without one, and what stands behind that byte, if it is there.
 #[tactic(auto, using(crate::proofs::Cuts::before_found, crate::proofs::Cuts::behind_found, crate::proofs::Cuts::before_none, crate::proofs::Cuts::behind_none))]
 pub(crate) fn cut(sign: u8, text: &[u8]) -> (&[u8], Option<&[u8]>)
     ensures before { result.0.now ≡ before sign text.now }

@@ -69,7 +69,7 @@ fn targets(alloc: Global, values: &[Value]) -> Result<Items<Address>, Refusal>
     if targets.len() > MAX_TARGETS {
         return Err(Refusal::Kind(PlanKind::TooMany));
     }
-    if targets.len() < 1 {
+    if targets.is_empty() {
         return Err(Refusal::Kind(PlanKind::BadArgument));
     }
     Ok(targets)

@@ -32,14 +32,15 @@ leave state mail =
     if bytes_eq state (codes "ghost") then one_fact (Dropped Discarded mail.recipients)
     else record { facts = []; children = child state mail ∷ [] }
 
--- what a mailet makes of a mail
+-- what a mailet makes of a mail; one that isn't built stands in no plan that is taken
 abbrev pub served : MailetKind → Mail → Outcome
 served (ToProcessor processor) mail = leave processor mail
 served Null mail = leave (codes "ghost") mail
 served (ToRepository path pass_through) mail = one_fact (Deposit path mail.sender mail.recipients mail.head mail.body)
 served other mail = nothing
 
--- what the steps of a processor of this name make of a mail: one that comes past the last step falls off
+-- What the steps of a processor of this name make of a mail: one that comes past the last step falls off. Each step that
+-- is built takes the whole mail for good, so the first decides.
 abbrev pub run : List ℕ → List Step → Mail → Outcome
 run name [] mail = one_fact (FellOff name mail.recipients)
 run name (step ∷ steps) mail = served step.mailet mail

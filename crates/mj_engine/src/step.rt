@@ -26,7 +26,7 @@ pub fn step(alloc: Global, plan: &Plan, mail: Mail) -> Result<Outcome, Memory>
     }
 }
 
-/// What the steps of a processor make of a mail: each serves all its recipients, so the first decides.
+/// What the steps of a processor make of a mail: each that is built takes the whole mail for good, so the first decides.
 fn run(alloc: Global, processor: &Processor, mail: Mail) -> Result<Outcome, Memory>
     requires { mail.hops + 1 < 2 ^ 32 }
     ensures { IfOk result (λ outcome. outcome ≡ run_of processor.now.name processor.now.steps mail) }
@@ -43,7 +43,7 @@ fn run(alloc: Global, processor: &Processor, mail: Mail) -> Result<Outcome, Memo
     }
 }
 
-/// What a mailet makes of a mail.
+/// What a mailet makes of a mail. One that isn't built stands in no plan that is taken.
 fn serve(alloc: Global, mailet: &MailetKind, mail: Mail) -> Result<Outcome, Memory>
     requires { mail.hops + 1 < 2 ^ 32 }
     ensures { IfOk result (λ outcome. outcome ≡ served mailet.now mail) }

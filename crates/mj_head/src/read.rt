@@ -305,6 +305,7 @@ pub fn read_head(alloc: Global, bytes: &[u8]) -> Result<(Head, usize), HeadFault
     ensures exact { Gives result (head_of bytes.now) }
     ensures place { IfOk result (λ read. read.1 ≤ length bytes.now) }
 {
+    // Room for the longest head at once, of which what isn't used is given back.
     let mut text = Vec::with_capacity(alloc, bytes.len().min(WRITTEN_LIMIT))?;
     let mut cursor = Cursor::new(bytes);
     while !is_head_over(cursor.rest) {
