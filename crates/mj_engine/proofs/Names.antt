@@ -7,15 +7,15 @@ use Rattle.std.proofs.lemmas.Option.{slice_get_within, get_or_from_slice_get}
 use Rattle.mj_io.specs.Folder.{names_in}
 use Rattle.mj_mail.specs.declared.mail.NewMail.{NewMail}
 use Rattle.mj_mail.specs.Mail.{first}
-use Rattle.mj_mail.specs.Meaning.{meaning, tree}
 use Rattle.mj_config.specs.declared.fault.PlanFault.{PlanFault}
 use Rattle.mj_plan.specs.declared.plan.Plan.{Plan}
-use Rattle.mj_engine.specs.declared.refusal.Refusal.{Refusal}
+use Rattle.mj_report.specs.declared.files.Refusal.{Refusal}
 use Rattle.mj_engine.specs.declared.report.Report.{Report}
 use Rattle.mj_engine.specs.Intake.{folder, is_mail_name, judged, found_mail, found_refusal, mails_of, refusals_of}
-use Rattle.mj_engine.specs.Report.{fact_line, refused_line}
+use Rattle.mj_container.specs.Running.{fate, fates}
+use Rattle.mj_report.specs.Facts.{fact_line}
+use Rattle.mj_report.specs.Files.{refused_line}
 use Rattle.mj_engine.specs.Run.{with_found, with_name, with_names, empty_report, report as report_of, plan_in, output, output_by}
-use Rattle.mj_engine.specs.Step.{step}
 
 -- what follows from two clauses on what an object tells
 pub IfSome_both : {X : Type 0} (o : Option X) (P Q R : X → Type 0) → IfSome o P → IfSome o Q → ((x : X) → P x → Q x → R x) → IfSome o R
@@ -29,7 +29,7 @@ drop_at xs k x e = drop_more xs k x (slice_get_within xs k x e) ∙ ap (λ y. y 
 module _ (plan : Plan) (files : List (List ℕ × List ℕ)) where
   -- the lines of mails that are numbered from n on
   abbrev lines_from : ℕ → List NewMail → List ℕ
-  lines_from n mails = flat_map fact_line (meaning plan.start (step plan) (enumerate_from n mails))
+  lines_from n mails = flat_map fact_line (fates plan (enumerate_from n mails))
 
   found_facts : (name : List ℕ) (found : Option (Result NewMail Refusal)) (mails : List NewMail) (report : Report)
       → (with_found plan name report found).facts ++ lines_from ((with_found plan name report found).accepted + 1) mails
@@ -37,8 +37,8 @@ module _ (plan : Plan) (files : List (List ℕ × List ℕ)) where
   found_facts name None mails report = refl
   found_facts name (Some (Err refusal)) mails report = refl
   found_facts name (Some (Ok mail)) mails report =
-      let here = tree (step plan) (first plan.start (report.accepted + 1) mail) in
-      let rest = meaning plan.start (step plan) (enumerate_from (report.accepted + 1 + 1) mails) in
+      let here = fate plan (first plan.start (report.accepted + 1) mail) in
+      let rest = fates plan (enumerate_from (report.accepted + 1 + 1) mails) in
       append_assoc report.facts (flat_map fact_line here) (flat_map fact_line rest)
       ∙ ap (λ lines. report.facts ++ lines) (sym (flat_map-append fact_line here rest))
 

@@ -1,36 +1,18 @@
 -- The configuration file, as far as this build carries it out.
-use Rattle.std.specs.Prelude.{ℕ, ◌+◌, Bool, true, false, not, ◌&&◌, if◌then◌else◌, List, [], ◌∷◌, Option, Some, None, Result, Ok, Err}
-use Rattle.mj_plan.specs.declared.condition.Condition.TheVariants.{All}
-use Rattle.mj_plan.specs.declared.mailet.MailetKind.{MailetKind}
-use Rattle.mj_plan.specs.declared.mailet.MailetKind.TheVariants.{ToProcessor, Null, ToRepository}
-use Rattle.mj_plan.specs.declared.matcher.MatchExpr.{MatchExpr}
-use Rattle.mj_plan.specs.declared.matcher.MatchExpr.TheVariants.{One}
+use Rattle.std.specs.Prelude.{ℕ, ◌+◌, if◌then◌else◌, List, [], ◌∷◌, Option, Some, None, Result, Ok, Err}
 use Rattle.mj_plan.specs.declared.plan.Plan.{Plan}
 use Rattle.mj_plan.specs.declared.plan.Processor.{Processor}
 use Rattle.mj_plan.specs.declared.plan.Step.{Step}
 use Rattle.mj_config.specs.declared.fault.PlanFault.{PlanFault}
 use Rattle.mj_config.specs.declared.fault.PlanFault.TheVariants.{Refused}
 use Rattle.mj_config.specs.declared.fault.PlanKind.TheVariants.{NoFile, NotBuilt}
+use Rattle.mj_container.specs.Built.{is_built_step}
 use Rattle.mj_config.specs.Walk.{◌then◌, plan}
-
--- the matchers and the mailets that this build carries out
-abbrev pub is_built_matcher : MatchExpr → Bool
-is_built_matcher (One All) = true
-is_built_matcher other = false
-
-abbrev pub is_built_mailet : MailetKind → Bool
-is_built_mailet (ToProcessor processor) = true
-is_built_mailet Null = true
-is_built_mailet (ToRepository path pass_through) = not pass_through
-is_built_mailet other = false
-
-abbrev pub is_built : Step → Bool
-is_built step = is_built_matcher step.matcher && is_built_mailet step.mailet
 
 -- the number of the first step that isn't built, where the steps are counted from this number on
 abbrev pub unbuilt_step : ℕ → List Step → Option ℕ
 unbuilt_step number [] = None
-unbuilt_step number (step ∷ steps) = if is_built step then unbuilt_step (number + 1) steps else Some number
+unbuilt_step number (step ∷ steps) = if is_built_step step then unbuilt_step (number + 1) steps else Some number
 
 -- the place of the first step that isn't built, by processor and step
 abbrev pub placed_or : ℕ → Option ℕ → Option (ℕ × ℕ) → Option (ℕ × ℕ)

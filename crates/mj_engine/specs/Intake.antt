@@ -5,8 +5,8 @@ use Rattle.mj_io.specs.Folder.{file_at, names_in}
 use Rattle.mj_mail.specs.declared.mail.NewMail.{NewMail}
 use Rattle.mj_mailfile.specs.declared.fault.MailFault.{MailFault}
 use Rattle.mj_mailfile.specs.MailFile.{mail_file}
-use Rattle.mj_engine.specs.declared.refusal.Refusal.{Refusal}
-use Rattle.mj_engine.specs.declared.refusal.Refusal.TheVariants.{LongName, Fault}
+use Rattle.mj_report.specs.declared.files.Refusal.{Refusal}
+use Rattle.mj_report.specs.declared.files.Refusal.TheVariants.{LongName, Fault}
 
 -- the folder of mails
 abbrev pub folder : List ℕ

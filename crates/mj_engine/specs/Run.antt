@@ -4,18 +4,19 @@ use Rattle.std.specs.List.{flat_map}
 use Rattle.mj_io.specs.Folder.{file_at}
 use Rattle.mj_mail.specs.declared.mail.NewMail.{NewMail}
 use Rattle.mj_mail.specs.Mail.{first}
-use Rattle.mj_mail.specs.Meaning.{meaning, tree}
 use Rattle.mj_config.specs.declared.fault.PlanFault.{PlanFault}
 use Rattle.mj_config.specs.declared.fault.PlanFault.TheVariants as config
 use Rattle.mj_plan.specs.declared.plan.Plan.{Plan}
-use Rattle.mj_engine.specs.declared.refusal.Refusal.{Refusal}
+use Rattle.mj_report.specs.declared.files.Refusal.{Refusal}
 use Rattle.mj_engine.specs.declared.report.Report.{Report}
 use Rattle.mj_engine.specs.declared.run.RunFault.{RunFault}
 use Rattle.mj_engine.specs.declared.run.RunFault.TheVariants.{Refused, Read, Memory}
 use Rattle.mj_engine.specs.Config.{configuration}
 use Rattle.mj_engine.specs.Intake.{is_mail_name, judged, fresh, refused}
-use Rattle.mj_engine.specs.Report.{fact_line, refused_line}
-use Rattle.mj_engine.specs.Step.{step}
+use Rattle.mj_container.specs.Running.{fate, fates}
+use Rattle.mj_step.specs.declared.james_rules.JamesRules.{JamesRules}
+use Rattle.mj_report.specs.Facts.{fact_line}
+use Rattle.mj_report.specs.Files.{refused_line}
 
 -- the plan of the configuration file, or its fault
 abbrev pub plan_in : List (List ℕ × List ℕ) → Result Plan PlanFault
@@ -24,7 +25,7 @@ plan_in files = configuration (file_at (codes "conf/mailetcontainer.toml") files
 -- The report: the line of each fact of the meaning of the accepted mails, in the order of places, and then the line of
 -- each refused file.
 abbrev pub report : Plan → List (List ℕ × List ℕ) → List ℕ
-report plan files = flat_map fact_line (meaning plan.start (step plan) (fresh files)) ++ flat_map refused_line (refused files)
+report plan files = flat_map fact_line (fates plan (fresh files)) ++ flat_map refused_line (refused files)
 
 -- what a run writes, or the fault of its configuration
 abbrev pub output_by : List (List ℕ × List ℕ) → Result Plan PlanFault → Result (List ℕ) PlanFault
@@ -41,12 +42,12 @@ GivesOutput (Err (Refused kind processor step)) said = said ≡ Err (config.Refu
 GivesOutput (Err Read) said = Unit {0}
 GivesOutput (Err Memory) said = Unit {0}
 
--- and the same of the plan alone
-abbrev pub GivesPlan : Result Plan RunFault → Result Plan PlanFault → Type 0
-GivesPlan (Ok plan) said = said ≡ Ok plan
-GivesPlan (Err (Refused kind processor step)) said = said ≡ Err (config.Refused kind processor step)
-GivesPlan (Err Read) said = Unit {0}
-GivesPlan (Err Memory) said = Unit {0}
+-- and the same of the rules alone
+abbrev pub GivesRules : Result JamesRules RunFault → Result Plan PlanFault → Type 0
+GivesRules (Ok rules) said = said ≡ Ok rules.plan
+GivesRules (Err (Refused kind processor step)) said = said ≡ Err (config.Refused kind processor step)
+GivesRules (Err Read) said = Unit {0}
+GivesRules (Err Memory) said = Unit {0}
 
 -- a report without lines
 abbrev pub empty_report : Report
@@ -56,7 +57,7 @@ empty_report = record { facts = []; refused = []; accepted = 0 }
 abbrev pub with_found : Plan → List ℕ → Report → Option (Result NewMail Refusal) → Report
 with_found plan name report None = report
 with_found plan name report (Some (Ok mail)) = record report {
-  facts = report.facts ++ flat_map fact_line (tree (step plan) (first plan.start (report.accepted + 1) mail));
+  facts = report.facts ++ flat_map fact_line (fate plan (first plan.start (report.accepted + 1) mail));
   accepted = report.accepted + 1;
 }
 with_found plan name report (Some (Err refusal)) = record report { refused = report.refused ++ refused_line (name, refusal) }

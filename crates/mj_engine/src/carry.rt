@@ -1,30 +1,46 @@
 //! The work list of a mail: the mails that wait, of which the next one stands at the end.
-ghost use Rattle.std.specs.Prelude.{◌≡◌, ◌++◌, ◌≤◌, OnOk};
+ghost use Rattle.std.specs.Prelude.{◌≡◌, ◌++◌, true, OnOk};
 ghost use Rattle.std.specs.List.{flat_map};
 ghost use mathlib.Core.List.{reverse};
 ghost use Rattle.mj_mail.specs.Meaning.{tree};
-ghost use Rattle.mj_engine.specs.Report.{fact_line};
-ghost use Rattle.mj_engine.specs.Step.{step as step_of};
+ghost use Rattle.mj_mail.specs.Rules.{is_acceptable, step_by};
+ghost use Rattle.mj_report.specs.Facts.{fact_line};
 
-use crate::report::put_facts;
-use crate::step::step;
 use mj_fields::{Bytes, Items, Memory};
-use mj_mail::Mail;
-use mj_plan::Plan;
+use mj_mail::{Mail, NewMail, Rules};
+use mj_report::put_fact_lines;
 use std::alloc::Global;
 
-/// Puts the line of each fact about a mail, and about the mails that it becomes, at the end of the text, in the order of places.
-pub fn put_tree(alloc: Global, out: &mut Bytes, plan: &Plan, mail: Mail) -> Result<(), Memory>
-    requires few { plan.now.max_hops ≤ 1_000 }
-    requires hops { mail.hops ≤ 1_000 }
-    ensures { OnOk result (out.new ≡ out.old ++ flat_map fact_line (tree (step_of plan.now) mail)) }
+/// Puts the line of each fact about a mail that is accepted under this number, and about the mails that it becomes, at the
+/// end of the text, in the order of places.
+pub fn put_mail<R: Rules>(
+    alloc: Global,
+    out: &mut Bytes,
+    rules: &R,
+    number: u64,
+    mail: NewMail,
+) -> Result<(), Memory>
+    requires { is_acceptable mail ≡ true }
+    ensures { OnOk result (out.new ≡ out.old
+        ++ flat_map fact_line (tree R.measure (step_by R.is_sound R.replies_to R.outcome_of rules.now) (R.first_of rules.now number mail))) }
+{
+    let first = rules.first(alloc, number, &mail)?;
+    drop(mail);
+    carry(alloc, out, rules, first)
+}
+
+/// The same for a mail on its way.
+fn carry<R: Rules>(alloc: Global, out: &mut Bytes, rules: &R, mail: Mail) -> Result<(), Memory>
+    requires { R.is_sound rules.now mail ≡ true }
+    ensures { OnOk result (out.new ≡ out.old
+        ++ flat_map fact_line (tree R.measure (step_by R.is_sound R.replies_to R.outcome_of rules.now) mail)) }
 {
     let mut waiting = Items::new(alloc);
     waiting.push(mail)?;
     while let Some(mail) = waiting.pop() {
-        let name = mail.name.copy(alloc)?;
-        let outcome = step(alloc, plan, mail)?;
-        put_facts(alloc, out, &name, outcome.facts.as_slice())?;
+        let replies = rules.replies(alloc, &mail)?;
+        let outcome = rules.step(alloc, &mail, &replies)?;
+        put_fact_lines(alloc, out, &mail.name, outcome.facts.as_slice())?;
         put_back(&mut waiting, outcome.children)?;
     }
     Ok(())

@@ -4,7 +4,8 @@ ghost use Rattle.std.specs.List.{list_all};
 ghost use Rattle.std.specs.Option.{option_copied};
 ghost use Rattle.mj_plan.specs.Sound.{IsSound};
 ghost use Rattle.mj_config.specs.Walk.{Answers};
-ghost use Rattle.mj_engine.specs.Config.{built, configuration, is_built, is_built_mailet, is_built_matcher, unbuilt, unbuilt_step};
+ghost use Rattle.mj_container.specs.Built.{is_built, is_built_mailet, is_built_matcher, is_built_step};
+ghost use Rattle.mj_engine.specs.Config.{built, configuration, unbuilt, unbuilt_step};
 
 use mj_config::{PlanFault, PlanKind, read_plan};
 use mj_plan::{Condition, MailetKind, MatchExpr, Plan, Processor, Step};
@@ -15,6 +16,7 @@ use std::alloc::Global;
 pub fn read_configuration(alloc: Global, file: Option<&[u8]>) -> Result<Plan, PlanFault>
     ensures exact { Answers result (configuration (option_copied file.entry)) }
     ensures sound { IfOk result IsSound }
+    ensures built { IfOk result (λ plan. is_built plan ≡ true) }
 {
     match file {
         None => Err(PlanFault::Refused {
@@ -27,11 +29,12 @@ pub fn read_configuration(alloc: Global, file: Option<&[u8]>) -> Result<Plan, Pl
 }
 
 /// The plan, if all its steps are built.
-#[tactic(auto, using(crate::proofs::Built::sound_steps))]
+#[tactic(auto, using(crate::proofs::Built::sound_steps, crate::proofs::Built::all_built))]
 fn built(plan: Plan) -> Result<Plan, PlanFault>
     requires { IsSound plan }
     ensures exact { result ≡ built plan }
     ensures sound { IfOk result IsSound }
+    ensures built { IfOk result (λ plan. is_built plan ≡ true) }
 {
     match unbuilt(plan.processors.as_slice()) {
         None => Ok(plan),
@@ -66,7 +69,7 @@ fn unbuilt_step(steps: &[Step]) -> Option<u32>
 {
     let mut number = 1;
     for step in steps {
-        if !is_built(step) {
+        if !is_built_step(step) {
             return Some(number);
         }
         number += 1;
@@ -74,8 +77,8 @@ fn unbuilt_step(steps: &[Step]) -> Option<u32>
     None
 }
 
-fn is_built(step: &Step) -> bool
-    ensures { result ≡ is_built step.now }
+fn is_built_step(step: &Step) -> bool
+    ensures { result ≡ is_built_step step.now }
 {
     let mailet = is_built_mailet(&step.mailet);
     is_built_matcher(&step.matcher) && mailet

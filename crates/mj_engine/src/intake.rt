@@ -1,14 +1,15 @@
-ghost use Rattle.std.specs.Prelude.{◌≡◌, ◌≤◌, length, string_bytes, IfOk, IfSome};
+ghost use Rattle.std.specs.Prelude.{◌≡◌, string_bytes, true, IfOk, IfSome};
 ghost use Rattle.mj_terms.specs.Causes.{HasCause};
 ghost use Rattle.mj_io.specs.Folder.{file_at};
+ghost use Rattle.mj_mail.specs.Rules.{is_acceptable};
 ghost use Rattle.mj_mailfile.specs.MailFile.{mail_file};
 ghost use Rattle.mj_engine.specs.Intake.{as_refusal, is_mail_name as ends_in_mail, judged, mail_in, mail_room, path_of as path_in_folder};
 
-use crate::Refusal;
 use mj_fields::{Bytes, Memory};
 use mj_io::{Files, FilesError};
 use mj_mail::NewMail;
 use mj_mailfile::read_mail_file;
+use mj_report::Refusal;
 use std::alloc::Global;
 
 /// The most bytes that the name of a mail file may have.
@@ -31,7 +32,7 @@ pub fn judge<F: Files>(
 ) -> Result<Option<Result<NewMail, Refusal>>, FilesError>
     requires { room ≡ mail_room }
     ensures judged { IfSome (F.told files.old) (λ told. IfOk result (λ found. found ≡ judged told name.now)) }
-    ensures small { IfOk result (λ found. IfSome found (λ mail. IfOk mail (λ mail. length mail.body ≤ 16_777_216))) }
+    ensures acceptable { IfOk result (λ found. IfSome found (λ mail. IfOk mail (λ mail. is_acceptable mail ≡ true))) }
     ensures same { F.told files.new ≡ F.told files.old }
     ensures cause { HasCause FilesError.Failed (F.faults files.old) (F.faults files.new) result }
 {
@@ -50,7 +51,7 @@ fn read_mail<F: Files>(
 ) -> Result<Option<Result<NewMail, Refusal>>, FilesError>
     requires { room ≡ mail_room }
     ensures judged { IfSome (F.told files.old) (λ told. IfOk result (λ found. found ≡ mail_in (file_at path.now told))) }
-    ensures small { IfOk result (λ found. IfSome found (λ mail. IfOk mail (λ mail. length mail.body ≤ 16_777_216))) }
+    ensures acceptable { IfOk result (λ found. IfSome found (λ mail. IfOk mail (λ mail. is_acceptable mail ≡ true))) }
     ensures same { F.told files.new ≡ F.told files.old }
     ensures cause { HasCause FilesError.Failed (F.faults files.old) (F.faults files.new) result }
 {
@@ -63,7 +64,7 @@ fn parse_file(
     file: Option<Bytes>,
 ) -> Result<Option<Result<NewMail, Refusal>>, Memory>
     ensures judged { IfOk result (λ found. found ≡ mail_in file) }
-    ensures small { IfOk result (λ found. IfSome found (λ mail. IfOk mail (λ mail. length mail.body ≤ 16_777_216))) }
+    ensures acceptable { IfOk result (λ found. IfSome found (λ mail. IfOk mail (λ mail. is_acceptable mail ≡ true))) }
 {
     match file {
         None => Ok(None),
@@ -81,7 +82,7 @@ fn path_of(alloc: Global, name: &str) -> Result<String, Memory>
 
 fn parse(alloc: Global, bytes: &[u8]) -> Result<Result<NewMail, Refusal>, Memory>
     ensures judged { IfOk result (λ mail. mail ≡ as_refusal (mail_file bytes.now)) }
-    ensures small { IfOk result (λ mail. IfOk mail (λ mail. length mail.body ≤ 16_777_216)) }
+    ensures acceptable { IfOk result (λ mail. IfOk mail (λ mail. is_acceptable mail ≡ true)) }
 {
     match read_mail_file(alloc, bytes) {
         Ok(mail) => Ok(Ok(mail)),

@@ -4,15 +4,10 @@
 mod carry;
 mod config;
 mod intake;
-mod refusal;
 mod report;
 mod run;
-mod step;
 mod top;
 
 pub use config::read_configuration;
-pub use refusal::Refusal;
 pub use top::james_one;
 
-#[cfg(test)]
-mod tests;

@@ -2,13 +2,14 @@ ghost use Rattle.std.specs.Prelude.{◌≡◌, ◌⊎◌, ◌↔◌, ◌≤◌, 
 ghost use Rattle.mj_terms.specs.Causes.{Rose};
 ghost use Rattle.mj_io.specs.Grown.{grown};
 ghost use Rattle.mj_engine.specs.Run.{output, plan_in};
-ghost use Rattle.mj_engine.specs.Top.{is_run, is_status, usage_line, read_line, config_line, kind_text, GrowsByLine, GrowsByFront};
+ghost use Rattle.mj_engine.specs.Top.{is_run, is_status, GrowsByLine, GrowsByFront};
+ghost use Rattle.mj_report.specs.Faults.{config_line as config_text, read_line as read_text, usage_line as usage_text};
 
 use crate::run::{RunFault, run};
 use mj_config::{PlanFault, PlanKind};
 use mj_fields::{Bytes, Memory};
 use mj_io::{Files, Sink};
-use mj_mail::put_number;
+use mj_report::{Fault, fault_line, read_line, usage_line};
 use std::alloc::Global;
 
 /// The command was done.
@@ -53,11 +54,11 @@ pub fn james_one<F: Files, S: Sink>(
         × (S.told out.new ≡ grown (S.told out.old) text)) }
     ensures report_front { result ≡ 6 → IfSome (F.told files.old) (λ told. (text : List ℕ) × (output told ≡ Ok text)
         × GrowsByFront (S.told out.old) (S.told out.new) text) }
-    ensures usage_text { result ≡ 2 → GrowsByLine (S.told out.old) (S.told out.new) (S.faults out.old) (S.faults out.new) usage_line }
+    ensures usage_text { result ≡ 2 → GrowsByLine (S.told out.old) (S.told out.new) (S.faults out.old) (S.faults out.new) usage_text }
     ensures config_text { result ≡ 3 → (kind : PlanKind) × (processor : ℕ) × (step : ℕ)
         × IfSome (F.told files.old) (λ told. plan_in told ≡ Err (PlanFault.Refused kind processor step))
-        × GrowsByLine (S.told out.old) (S.told out.new) (S.faults out.old) (S.faults out.new) (config_line kind processor step) }
-    ensures read_text { result ≡ 5 → GrowsByLine (S.told out.old) (S.told out.new) (S.faults out.old) (S.faults out.new) read_line }
+        × GrowsByLine (S.told out.old) (S.told out.new) (S.faults out.old) (S.faults out.new) (config_text kind processor step) }
+    ensures read_text { result ≡ 5 → GrowsByLine (S.told out.old) (S.told out.new) (S.faults out.old) (S.faults out.new) read_text }
     ensures nothing { result ≡ 12 → S.told out.new ≡ S.told out.old }
 
     // What stays as it was.
@@ -66,7 +67,7 @@ pub fn james_one<F: Files, S: Sink>(
     ensures sink_faults { S.faults out.old ≤ S.faults out.new }
 {
     if !asks_run(words) {
-        put_line(out, usage());
+        put_line(out, usage_line());
         return USAGE;
     }
     match run(alloc, files) {
@@ -77,7 +78,14 @@ pub fn james_one<F: Files, S: Sink>(
                 processor,
                 step,
             },
-        ) => match config_fault(alloc, kind, processor, step) {
+        ) => match fault_line(
+            alloc,
+            &Fault::Config {
+                kind,
+                processor,
+                step,
+            },
+        ) {
             Ok(line) => {
                 put_line(out, line.as_slice());
                 CONFIGURATION
@@ -85,7 +93,7 @@ pub fn james_one<F: Files, S: Sink>(
             Err(_) => MEMORY,
         },
         Err(RunFault::Read) => {
-            put_line(out, read_fault());
+            put_line(out, read_line());
             READ
         }
         Err(RunFault::Memory) => MEMORY,
@@ -122,55 +130,4 @@ fn put_line<S: Sink>(out: &mut S, line: &[u8])
     ensures later { S.faults out.old ≤ S.faults out.new }
 {
     let _ = out.write(line);
-}
-
-fn usage() -> &'static [u8]
-    ensures { result.now ≡ usage_line }
-{
-    b"usage: james COMMAND [--workers N] [--number N] [--count N]\n"
-}
-
-fn read_fault() -> &'static [u8]
-    ensures { result.now ≡ read_line }
-{
-    b"fault read\n"
-}
-
-/// The line for a configuration that is missing or refused.
-fn config_fault(alloc: Global, kind: PlanKind, processor: u32, step: u32) -> Result<Bytes, Memory>
-    ensures { IfOk result (λ line. line ≡ config_line kind processor step) }
-{
-    let mut line = Bytes::from_slice(alloc, b"fault config ")?;
-    line.extend(kind_name(kind))?;
-    line.push(b' ')?;
-    put_number(alloc, &mut line, u64::from(processor))?;
-    line.push(b' ')?;
-    put_number(alloc, &mut line, u64::from(step))?;
-    line.push(b'\n')?;
-    Ok(line)
-}
-
-fn kind_name(kind: PlanKind) -> &'static [u8]
-    ensures { result.now ≡ kind_text kind }
-{
-    match kind {
-        PlanKind::NoFile => b"NoFile",
-        PlanKind::TooLarge => b"TooLarge",
-        PlanKind::NotToml => b"NotToml",
-        PlanKind::Missing => b"Missing",
-        PlanKind::WrongType => b"WrongType",
-        PlanKind::BadAddress => b"BadAddress",
-        PlanKind::BadMoment => b"BadMoment",
-        PlanKind::NoRoot => b"NoRoot",
-        PlanKind::NoError => b"NoError",
-        PlanKind::Twice => b"Twice",
-        PlanKind::ReservedState => b"ReservedState",
-        PlanKind::UnknownClass => b"UnknownClass",
-        PlanKind::UnknownMatcher => b"UnknownMatcher",
-        PlanKind::BadArgument => b"BadArgument",
-        PlanKind::UnknownProcessor => b"UnknownProcessor",
-        PlanKind::TooDeep => b"TooDeep",
-        PlanKind::TooMany => b"TooMany",
-        PlanKind::NotBuilt => b"NotBuilt",
-    }
 }

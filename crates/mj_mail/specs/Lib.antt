@@ -1,3 +1,7 @@
+pub mod Attributes
 pub mod Mail
 pub mod Meaning
 pub mod Name
+pub mod Outcome
+pub mod Reply
+pub mod Rules

@@ -1,32 +1,41 @@
--- What a mail is when it is accepted, and how large a message is.
+-- What a mail is when it is accepted, the mail for some of its recipients, and how large a message is.
 use Rattle.std.specs.Prelude.{ℕ, ◌+◌, List, [], length, codes}
 use Rattle.mj_mail.specs.declared.mail.Body.{Body}
-use Rattle.mj_mail.specs.declared.mail.Body.TheVariants.{Original}
+use Rattle.mj_mail.specs.declared.mail.Body.TheVariants.{Original, Made}
 use Rattle.mj_mail.specs.declared.mail.Mail.{Mail}
 use Rattle.mj_mail.specs.declared.mail.NewMail.{NewMail}
 use Rattle.mj_mail.specs.declared.mail.Stage.TheVariants.{Process}
+use Rattle.mj_mail.specs.Name.{first_name}
 use Rattle.mj_head.specs.Head.{written}
 
 -- the processor in which each accepted mail begins
 abbrev pub root : List ℕ
 root = codes "root"
 
--- the mail that is accepted under a number: in `root`, with the body that came in, without hops and due at the start
+-- the mail that is accepted under a number: in `root`, with the body that came in, without attributes, failures and
+-- hops, and due at the start
 abbrev pub first : ℕ → ℕ → NewMail → Mail
 first start number new = record {
-  name = record { number = number; path = [] };
+  name = first_name number;
   sender = new.sender;
   recipients = new.recipients;
+  attributes = [];
   stage = Process root;
+  error = [];
   head = new.head;
   body = Original number (length new.body);
   hops = 0;
   due = start;
 }
 
+-- the same mail for these recipients
+abbrev pub restrict : Mail → List (List ℕ × List ℕ) → Mail
+restrict mail recipients = record mail { recipients = recipients }
+
 -- how many bytes a body has
 abbrev pub body_len : Body → ℕ
 body_len (Original number len) = len
+body_len (Made bytes) = length bytes
 
 -- how many bytes a whole message has: the written head, the empty line and the body
 abbrev pub size : List (List ℕ × List ℕ) → Body → ℕ

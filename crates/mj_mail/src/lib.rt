@@ -1,14 +1,24 @@
-//! Mails: their names, what a processor finds in them, what becomes of them, and the meaning of a mail as the
-//! list of all facts about it.
+//! Mails: their names, what a processor finds in them, what becomes of them, the rules by which it does, and the
+//! meaning of a mail as the list of all facts about it.
 #![tactic(auto)]
 
+mod attribute_laws;
+mod attributes;
 mod fact;
+mod limits;
 mod mail;
 mod name;
+mod number;
+mod reply;
+mod rules;
 
+pub use attribute_laws::{
+    changed_attributes_keep_other_values, changed_attributes_keep_their_form,
+};
+pub use attributes::{Attributes, MAX_ATTRIBUTES};
 pub use fact::{Fact, Outcome, Why};
-pub use mail::{Body, Mail, NewMail, Stage};
+pub use limits::{MAX_BODY, MAX_ERROR, MAX_HEAD, MAX_RECIPIENTS};
+pub use mail::{Body, Mail, NewMail, Stage, copy_sender};
 pub use name::{Name, name_text, put_number};
-
-#[cfg(test)]
-mod tests;
+pub use reply::Reply;
+pub use rules::Rules;

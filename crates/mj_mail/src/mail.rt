@@ -1,9 +1,9 @@
 ghost use Rattle.std.specs.Prelude.{◌≡◌, ◌<◌, ◌^◌, length, IfOk};
-ghost use Rattle.mj_mail.specs.Mail.{first, body_len};
+ghost use Rattle.mj_mail.specs.Mail.{body_len, first, restrict, size};
 
-use crate::Name;
-use mj_address::{Address, Recipients};
-use mj_fields::{Bytes, Items, Memory};
+use crate::{Attributes, Name};
+use mj_address::{Address, Domain, Recipients};
+use mj_fields::{Bytes, Memory};
 use mj_head::Head;
 use std::alloc::Global;
 
@@ -22,13 +22,21 @@ pub struct NewMail {
 pub enum Stage {
     /// It waits for the processor of that name.
     Process(Bytes),
+    /// It waits to be sent to that host by the remote delivery of that name. Attempts count from 1.
+    Remote {
+        delivery: Bytes,
+        host: Domain,
+        attempt: u32,
+    },
 }
 
 /// The body of a message.
-#[derive(Clone, Copy, Debug, PartialEq, Eq)]
+#[derive(Debug, Drop)]
 pub enum Body {
     /// The body with which the mail of that number was accepted, and its length in bytes.
     Original { number: u64, length: u32 },
+    /// A body that was made on the way, as that of a notice.
+    Made(Bytes),
 }
 
 /// A mail on its way through the processors.
@@ -37,7 +45,10 @@ pub struct Mail {
     pub name: Name,
     pub sender: Option<Address>,
     pub recipients: Recipients,
+    pub attributes: Attributes,
     pub stage: Stage,
+    /// Why it came to where it stands, if something failed; else nothing.
+    pub error: Bytes,
     pub head: Head,
     pub body: Body,
     /// How often it was sent to a processor.
@@ -46,36 +57,134 @@ pub struct Mail {
     pub due: u64,
 }
 
+impl Stage {
+    /// An equal value with room of its own.
+    pub fn copy(&self, alloc: Global) -> Result<Stage, Memory>
+        ensures { IfOk result (λ stage. stage ≡ self.now) }
+    {
+        match self {
+            Stage::Process(state) => Ok(Stage::Process(state.copy(alloc)?)),
+            Stage::Remote {
+                delivery,
+                host,
+                attempt,
+            } => Ok(Stage::Remote {
+                delivery: delivery.copy(alloc)?,
+                host: host.copy(alloc)?,
+                attempt: *attempt,
+            }),
+        }
+    }
+}
+
 impl Body {
     /// How many bytes the body has.
     pub fn len(&self) -> u64
         ensures len { result ≡ body_len self.now }
-        ensures small { result < 2 ^ 32 }
+        ensures small { result < 2 ^ 63 }
     {
-        let Body::Original { length, .. } = *self;
-        u64::from(length)
+        match self {
+            Body::Original { length, .. } => u64::from(*length),
+            Body::Made(bytes) => bytes.len() as u64,
+        }
+    }
+
+    /// How many bytes the whole message with this head has: the written head, the empty line and the body.
+    pub fn message_size(&self, head: &Head) -> u64
+        ensures { result ≡ size head.now self.now }
+    {
+        head.written_len() as u64 + 2 + self.len()
+    }
+
+    /// An equal value with room of its own.
+    pub fn copy(&self, alloc: Global) -> Result<Body, Memory>
+        ensures { IfOk result (λ body. body ≡ self.now) }
+    {
+        match self {
+            Body::Original { number, length } => Ok(Body::Original {
+                number: *number,
+                length: *length,
+            }),
+            Body::Made(bytes) => Ok(Body::Made(bytes.copy(alloc)?)),
+        }
+    }
+}
+
+impl Mail {
+    /// The size of its message in bytes: the written head, the empty line and the body.
+    pub fn size(&self) -> u64
+        ensures { result ≡ size self.now.head self.now.body }
+    {
+        self.body.message_size(&self.head)
+    }
+
+    /// The same mail for these recipients.
+    pub fn restrict(&self, alloc: Global, recipients: Recipients) -> Result<Mail, Memory>
+        ensures { IfOk result (λ mail. mail ≡ restrict self.now recipients) }
+    {
+        Ok(Mail {
+            name: self.name.copy(alloc)?,
+            sender: copy_sender(alloc, &self.sender)?,
+            recipients,
+            attributes: self.attributes.copy(alloc)?,
+            stage: self.stage.copy(alloc)?,
+            error: self.error.copy(alloc)?,
+            head: self.head.copy(alloc)?,
+            body: self.body.copy(alloc)?,
+            hops: self.hops,
+            due: self.due,
+        })
+    }
+
+    /// An equal value with room of its own.
+    pub fn copy(&self, alloc: Global) -> Result<Mail, Memory>
+        ensures { IfOk result (λ mail. mail ≡ self.now) }
+    {
+        let recipients = self.recipients.copy(alloc)?;
+        self.restrict(alloc, recipients)
     }
 }
 
 impl NewMail {
     /// The mail that is accepted under this number: it waits for the processor `root`, and is due at `start`.
-    pub fn into_first(self, alloc: Global, start: u64, number: u64) -> Result<Mail, Memory>
-        requires { length self.body < 2 ^ 32 }
-        ensures { IfOk result (λ mail. mail ≡ first start number self) }
+    pub fn first(&self, alloc: Global, start: u64, number: u64) -> Result<Mail, Memory>
+        requires { length self.now.body < 2 ^ 32 }
+        ensures { IfOk result (λ mail. mail ≡ first start number self.now) }
     {
         let length = self.body.len() as u32;
         Ok(Mail {
-            name: Name {
-                number,
-                path: Items::new(alloc),
-            },
-            sender: self.sender,
-            recipients: self.recipients,
+            name: Name::first(alloc, number),
+            sender: copy_sender(alloc, &self.sender)?,
+            recipients: self.recipients.copy(alloc)?,
+            attributes: Attributes::new(alloc),
             stage: Stage::Process(Bytes::from_slice(alloc, b"root")?),
-            head: self.head,
+            error: Bytes::new(alloc),
+            head: self.head.copy(alloc)?,
             body: Body::Original { number, length },
             hops: 0,
             due: start,
         })
+    }
+
+    /// An equal value with room of its own.
+    pub fn copy(&self, alloc: Global) -> Result<NewMail, Memory>
+        ensures { IfOk result (λ mail. mail ≡ self.now) }
+    {
+        Ok(NewMail {
+            sender: copy_sender(alloc, &self.sender)?,
+            recipients: self.recipients.copy(alloc)?,
+            head: self.head.copy(alloc)?,
+            body: self.body.copy(alloc)?,
+        })
+    }
+}
+
+/// An equal sender, or none where there is none.
+pub fn copy_sender(alloc: Global, sender: &Option<Address>) -> Result<Option<Address>, Memory>
+    ensures { IfOk result (λ copied. copied ≡ sender.now) }
+{
+    match sender {
+        Some(address) => Ok(Some(address.copy(alloc)?)),
+        None => Ok(None),
     }
 }

@@ -1,6 +1,6 @@
 ghost use Rattle.std.specs.Prelude.{◌≡◌, ◌++◌, OnOk, OnErr, IfOk};
 ghost use Rattle.std.specs.Fmt.{decimal};
-ghost use Rattle.mj_mail.specs.Name.{text_of};
+ghost use Rattle.mj_mail.specs.Name.{child_name, first_name, text_of};
 
 use mj_fields::{Bytes, Items, Memory};
 use std::alloc::Global;
@@ -14,6 +14,25 @@ pub struct Name {
 }
 
 impl Name {
+    /// The name of the mail that was accepted under this number. It takes no memory.
+    pub fn first(alloc: Global, number: u64) -> Name
+        ensures { result ≡ first_name number }
+    {
+        Name {
+            number,
+            path: Items::new(alloc),
+        }
+    }
+
+    /// The name of the child of this number. Without room for it there is `Memory` alone.
+    pub fn child(self, number: u32) -> Result<Name, Memory>
+        ensures { IfOk result (λ name. name ≡ child_name self number) }
+    {
+        let mut name = self;
+        name.path.push(number)?;
+        Ok(name)
+    }
+
     /// An equal value with room of its own.
     pub fn copy(&self, alloc: Global) -> Result<Name, Memory>
         ensures { IfOk result (λ name. name ≡ self.now) }

@@ -1,21 +1,19 @@
-ghost use Rattle.std.specs.Prelude.{◌≡◌, ◌≤◌, ◌<◌, ◌+◌, ◌^◌, [], length, codes, ok_or, Ok, Err, IfOk, IfErr, IfSome, MatchOption, OnOk};
+ghost use Rattle.std.specs.Prelude.{◌≡◌, ◌≤◌, ◌<◌, ◌+◌, ◌^◌, [], length, codes, true, ok_or, Ok, Err, IfOk, IfErr, IfSome, MatchOption, OnOk};
 ghost use Rattle.std.specs.Option.{option_copied};
 ghost use Rattle.mj_terms.specs.Text.{same_text, trim_back};
-ghost use Rattle.mj_head.specs.Head.{lines, head_of};
+ghost use Rattle.mj_head.specs.Head.{lines, head_of, written};
+ghost use Rattle.mj_mail.specs.Rules.{is_acceptable};
 ghost use Rattle.mj_mailfile.specs.MailFile.{Gives, GivesBytes, GivesFound, IsEnd, IsRecipientLine, head_fault, behind_word as behind_word_of, before_bracket as before_bracket_of, bracketed as bracketed_of, mailbox, mail_file, mail_of, mail_with, message_behind, path_of, recipients_of, sender_of, with_recipient};
 
 use crate::MailFault;
 use mj_address::{Address, AddressFault, Recipients};
 use mj_fields::Bytes;
 use mj_head::{HeadFault, first_line, read_head, trim_blanks, trim_end_blanks};
-use mj_mail::NewMail;
+use mj_mail::{MAX_BODY, MAX_HEAD, MAX_RECIPIENTS, NewMail};
 use std::alloc::Global;
 
-/// The most bytes that a mail file may have.
-pub const MAX_FILE: usize = 16_777_216;
-
-/// The most recipients that a mail may have.
-pub const MAX_RECIPIENTS: usize = 500;
+/// The most bytes that a mail file may have: those of the largest body.
+pub const MAX_FILE: usize = MAX_BODY;
 
 /// The mail of a file: its envelope in the words of SMTP (RFC 5321, 4.1.1), and its message.
 ///
@@ -25,12 +23,13 @@ pub const MAX_RECIPIENTS: usize = 500;
 /// `TooLarge` for more than 16,777,216 bytes; `NoMailFrom` and `BadSender` at the first line; at each recipient's line
 /// `BadRecipient` with its number in the file, and `TooManyRecipients` at the 501st different recipient; `NoRecipient`
 /// and `NoData` at the line behind; and the fault of the message's head, with its number in the message.
-#[tactic(auto, unfolding(crate::specs::MailFile::mail_file))]
+#[tactic(auto, unfolding(crate::specs::MailFile::mail_file), using(crate::proofs::Acceptable::acceptable))]
 pub fn read_mail_file(alloc: Global, bytes: &[u8]) -> Result<NewMail, MailFault>
     ensures exact { Gives result (mail_file bytes.now) }
     ensures some { IfOk result (λ mail. 1 ≤ length mail.recipients) }
     ensures few { IfOk result (λ mail. length mail.recipients ≤ MAX_RECIPIENTS) }
     ensures body { IfOk result (λ mail. length mail.body ≤ MAX_FILE) }
+    ensures acceptable { IfOk result (λ mail. is_acceptable mail ≡ true) }
 {
     if bytes.len() > MAX_FILE {
         return Err(MailFault::TooLarge);
@@ -45,6 +44,7 @@ fn read_mail(alloc: Global, bytes: &[u8]) -> Result<NewMail, MailFault>
     ensures some { IfOk result (λ mail. 1 ≤ length mail.recipients) }
     ensures few { IfOk result (λ mail. length mail.recipients ≤ MAX_RECIPIENTS) }
     ensures body { IfOk result (λ mail. length mail.body ≤ length bytes.now) }
+    ensures head { IfOk result (λ mail. length (written mail.head) ≤ MAX_HEAD) }
 {
     if bytes.is_empty() {
         return Err(MailFault::NoMailFrom);
@@ -182,11 +182,14 @@ fn read_message(
     ensures exact { Gives result (mail_with sender recipients message.now (head_of message.now)) }
     ensures recipients { IfOk result (λ mail. mail.recipients ≡ recipients) }
     ensures body { IfOk result (λ mail. length mail.body ≤ length message.now) }
+    ensures head { IfOk result (λ mail. length (written mail.head) ≤ MAX_HEAD) }
 {
     let (head, place) = match read_head(alloc, message) {
         Ok(read) => read,
         Err(fault) => return Err(fault_of_head(fault)),
     };
+    let fits = head.written_len() <= MAX_HEAD;
+    prove!(fits);
     match Bytes::from_slice(alloc, &message[place..]) {
         Ok(body) => Ok(NewMail {
             sender,

@@ -7,5 +7,5 @@ invariant-loop-k g l = record {
   told : g.F.Files.told l.files ≡ g.F.Files.told l.initial.files;
   later : g.F.Files.faults l.initial.files ≤ g.F.Files.faults l.files;
   count : l.report.accepted ≤ l.k;
-  exact : IfSome (g.F.Files.told l.initial.files) (λ told. with_names l.plan told (drop l.k l.names) l.report ≡ with_names l.plan told l.names empty_report);
+  exact : IfSome (g.F.Files.told l.initial.files) (λ told. with_names l.rules.plan told (drop l.k l.names) l.report ≡ with_names l.rules.plan told l.names empty_report);
 }

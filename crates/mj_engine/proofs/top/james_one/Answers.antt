@@ -6,8 +6,8 @@ use Rattle.mj_engine.specs.Top.{GrowsByLine}
 use Rattle.mj_engine.proofs.Names.{refused_plan}
 use Rattle.mj_engine.proofs.top.james_one.Goals as goal
 
-pub returns-in-Ok-config_fault-clause-config_text : goal.returns-in-Ok-config_fault-clause-config_text
-returns-in-Ok-config_fault-clause-config_text g c =
+pub returns-in-Ok-fault_line-clause-config_text : goal.returns-in-Ok-fault_line-clause-config_text
+returns-in-Ok-fault_line-clause-config_text g c =
     let kind = c.in-Err-Refused.kind in
     let processor = c.in-Err-Refused.processor in
     let step = c.in-Err-Refused.step in
@@ -16,6 +16,6 @@ returns-in-Ok-config_fault-clause-config_text g c =
       processor,
       step,
       IfSome_then (g.F.Files.told c.args.files.now) c.in-Err-Refused.ensures.exact (λ told read. refused_plan told (Refused kind processor step) (subst (λ fault. GivesOutput (Err fault) (output told)) c.in-Err-Refused.field-0-is read)),
-      subst (GrowsByLine (g.S.Sink.told c.args.out.now) (g.S.Sink.told c.put_line-in-Ok-config_fault.new.out) (g.S.Sink.faults c.args.out.now) (g.S.Sink.faults c.put_line-in-Ok-config_fault.new.out))
-          (c.as_slice-in-Ok-config_fault.ensures ∙ c.in-Ok-config_fault.ensures) c.put_line-in-Ok-config_fault.ensures.line,
+      subst (GrowsByLine (g.S.Sink.told c.args.out.now) (g.S.Sink.told c.put_line-in-Ok-fault_line.new.out) (g.S.Sink.faults c.args.out.now) (g.S.Sink.faults c.put_line-in-Ok-fault_line.new.out))
+          (c.as_slice-in-Ok-fault_line.ensures ∙ c.in-Ok-fault_line.ensures) c.put_line-in-Ok-fault_line.ensures.line,
     )

@@ -1,0 +1,100 @@
+-- What soundness says, part by part.
+use Rattle.std.proofs.Common.{◌≡◌, ◌∙◌, ℕ, ◌+◌, ◌-◌, ◌*◌, ◌<◌, ◌≤◌, Bool, true, false, List, [], ◌∷◌, ◌++◌, length, refl, sym, ap, arith, Option, Some, None}
+use Rattle.std.specs.Prelude.{nat_le, ◌&&◌, ◌||◌, ◌==◌, codes, if◌then◌else◌}
+use Rattle.std.specs.List.{find, list_all, list_any}
+use Rattle.std.specs.Str.{bytes_eq}
+use Rattle.std.proofs.lemmas.Bool.{and_parts}
+use Rattle.std.proofs.lemmas.Cmp.{nat_list_eq_equiv}
+use Rattle.std.proofs.lemmas.Bool.Decides.{nat_tests}
+use Rattle.mj_head.specs.Head.{written}
+use Rattle.mj_mail.specs.declared.limits.TheConstants.{MAX_ERROR, MAX_HEAD}
+use Rattle.mj_mail.specs.declared.mail.Mail.{Mail}
+use Rattle.mj_mail.specs.declared.mail.Stage.{Stage}
+use Rattle.mj_mail.specs.declared.mail.Stage.TheVariants.{Process, Remote}
+use Rattle.mj_mail.specs.Mail.{body_len}
+use Rattle.mj_mail.specs.Rules.{has_recipients, is_small_body}
+use Rattle.mj_plan.specs.declared.plan.Plan.{Plan}
+use Rattle.mj_plan.specs.declared.plan.Processor.{Processor}
+use Rattle.mj_plan.specs.Lookups.{processor_named}
+use Rattle.mj_plan.specs.Sound.{names_of}
+use Rattle.mj_container.specs.Sound.{are_attributes, is_sound, keeps_limits, latest, may_stand, measure, names_processor}
+
+pub both_true : (a b : Bool) → a ≡ true → b ≡ true → (a && b) ≡ true
+both_true a b p q = rw (p, q)
+
+-- a mail that waits for a processor of this name, and is sound
+pub record Waits (plan : Plan) (state : List ℕ) (mail : Mail) : Type 0 where
+  pub limits : keeps_limits mail ≡ true
+  pub named : names_processor plan state ≡ true
+  pub hops : mail.hops ≤ 1_001
+  pub due : mail.due ≤ latest mail.hops
+  pub path : length mail.name.path + measure mail ≤ 102_203
+
+le_of : (m n : ℕ) → nat_le m n ≡ true → m ≤ n
+le_of m n h = grind (arith, nat_tests, h)
+
+of_le : (m n : ℕ) → m ≤ n → nat_le m n ≡ true
+of_le m n h = grind (arith, nat_tests, h)
+
+pub waits : (plan : Plan) (state : List ℕ) (mail : Mail) → (keeps_limits mail && may_stand plan (Process state) mail) ≡ true → Waits plan state mail
+waits plan state mail h =
+    let path = nat_le (length mail.name.path + measure mail) 102_203 in
+    let due = nat_le mail.due (latest mail.hops) in
+    let hops = nat_le mail.hops 1_001 in
+    let all = and_parts (keeps_limits mail) (may_stand plan (Process state) mail) h in
+    let stands = and_parts (names_processor plan state) (hops && (due && path)) all.1 in
+    let bounds = and_parts hops (due && path) stands.1 in
+    let last = and_parts due path bounds.1 in
+    record {
+      limits = all.0;
+      named = stands.0;
+      hops = le_of mail.hops 1_001 bounds.0;
+      due = le_of mail.due (latest mail.hops) last.0;
+      path = le_of (length mail.name.path + measure mail) 102_203 last.1;
+    }
+
+pub waits_sound : (plan : Plan) (state : List ℕ) (mail : Mail) → Waits plan state mail → (keeps_limits mail && may_stand plan (Process state) mail) ≡ true
+waits_sound plan state mail w =
+    let path = nat_le (length mail.name.path + measure mail) 102_203 in
+    let due = nat_le mail.due (latest mail.hops) in
+    let hops = nat_le mail.hops 1_001 in
+    let last = both_true due path (of_le mail.due (latest mail.hops) w.due) (of_le (length mail.name.path + measure mail) 102_203 w.path) in
+    let bounds = both_true hops (due && path) (of_le mail.hops 1_001 w.hops) last in
+    both_true (keeps_limits mail) (may_stand plan (Process state) mail) w.limits (both_true (names_processor plan state) (hops && (due && path)) w.named bounds)
+
+-- ---- Limits
+
+-- what a mail carries, part by part
+pub record Limits (mail : Mail) : Type 0 where
+  pub recipients : has_recipients mail.recipients ≡ true
+  pub head : nat_le (length (written mail.head)) MAX_HEAD ≡ true
+  pub body : is_small_body (body_len mail.body) ≡ true
+
+pub limits_of : (mail : Mail) → keeps_limits mail ≡ true → Limits mail
+limits_of mail h =
+    let body = is_small_body (body_len mail.body) in
+    let head = nat_le (length (written mail.head)) MAX_HEAD in
+    let error = nat_le (length mail.error) MAX_ERROR in
+    let attributes = are_attributes mail.attributes in
+    let all = and_parts (has_recipients mail.recipients) (attributes && (error && (head && body))) h in
+    let rest = and_parts attributes (error && (head && body)) all.1 in
+    let last = and_parts head body (and_parts error (head && body) rest.1).1 in
+    record { recipients = all.0; head = last.0; body = last.1 }
+
+-- ---- Processors by their names
+
+passes_by : (test : Processor → Bool) (p q : Processor) (rest : Option Processor) (b : Bool) → (if b then Some p else rest) ≡ Some q
+    → test p ≡ true → (rest ≡ Some q → test q ≡ true) → test q ≡ true
+passes_by test p q rest true e here later = let same : p ≡ q = cc in sym (ap test same) ∙ here
+passes_by test p q rest false e here later = later e
+
+-- what holds of each processor holds of the one that is found
+pub processor_passes : (test : Processor → Bool) (state : List ℕ) (processors : List Processor) (p : Processor) → processor_named state processors ≡ Some p
+    → list_all test processors ≡ true → test p ≡ true
+processor_passes test state [] p e all = cc
+processor_passes test state (q ∷ processors) p e all =
+    let parts = and_parts (test q) (list_all test processors) all in
+    passes_by test q p (processor_named state processors) (bytes_eq q.name state) e parts.0 (λ f. processor_passes test state processors p f parts.1)
+
+pub same_bytes : (a b : List ℕ) → bytes_eq a b ≡ bytes_eq b a
+same_bytes a b = nat_list_eq_equiv.symm a b

@@ -1,0 +1,4 @@
+pub mod Built
+pub mod Sound
+pub mod Serving
+pub mod Running

@@ -1,9 +1,0 @@
-use Rattle.std.proofs.Common.{◌≡◌, ◌+◌, ◌++◌, drop}
-use Rattle.std.specs.List.{flat_map}
-use Rattle.mj_mail.specs.Meaning.{placed}
-use Rattle.mj_engine.specs.Report.{fact_line}
-use Rattle.mj_engine.proofs.Lines.{placed_from}
-use Rattle.mj_engine.proofs.report.put_facts.Given as goal
-
-abbrev pub invariant-loop-k : goal.invariant-loop-k
-invariant-loop-k l = l.out ++ flat_map fact_line (placed_from l.name (l.k + 1) (drop l.k l.facts)) ≡ l.initial.out ++ flat_map fact_line (placed l.name l.facts)

@@ -1,0 +1,3 @@
+pub mod AttributeLists
+pub mod Numbers
+pub mod Trees

@@ -1,0 +1,59 @@
+-- The rules by which mails are carried: what one step makes of a mail, and what each set of rules owes.
+use Rattle.std.specs.Prelude.{◌≡◌, ℕ, ◌+◌, nat_le, Bool, true, ◌&&◌, if◌then◌else◌, List, [], ◌∷◌, length}
+use Rattle.mj_head.specs.Head.{written}
+use Rattle.mj_mail.specs.declared.fact.Fact.{Fact}
+use Rattle.mj_mail.specs.declared.fact.Fact.TheVariants.{Deposit, Sent, Retry, Bounce, Dropped, FellOff, Looped, Overrun}
+use Rattle.mj_mail.specs.declared.fact.Outcome.{Outcome}
+use Rattle.mj_mail.specs.declared.limits.TheConstants.{MAX_BODY, MAX_HEAD, MAX_RECIPIENTS}
+use Rattle.mj_mail.specs.declared.mail.Body.{Body}
+use Rattle.mj_mail.specs.declared.mail.Body.TheVariants.{Original, Made}
+use Rattle.mj_mail.specs.declared.mail.Mail.{Mail}
+use Rattle.mj_mail.specs.declared.mail.NewMail.{NewMail}
+use Rattle.mj_mail.specs.declared.name.Name.{Name}
+use Rattle.mj_mail.specs.declared.reply.Reply.{Reply}
+use Rattle.mj_mail.specs.Mail.{body_len}
+use Rattle.mj_mail.specs.Name.{child_name}
+use Rattle.mj_mail.specs.Outcome.{nothing}
+
+-- one to 500 recipients
+abbrev pub has_recipients : List (List ℕ × List ℕ) → Bool
+has_recipients recipients = nat_le 1 (length recipients) && nat_le (length recipients) MAX_RECIPIENTS
+
+abbrev pub is_small_body : ℕ → Bool
+is_small_body bytes = nat_le bytes MAX_BODY
+
+-- a mail that may be accepted: it has a recipient, and keeps the limits
+abbrev pub is_acceptable : NewMail → Bool
+is_acceptable new = has_recipients new.recipients && (nat_le (length (written new.head)) MAX_HEAD && is_small_body (length new.body))
+
+-- what one step makes of a mail, by rules with these meanings: nothing of one that isn't sound for them
+abbrev pub step_by : {R : Type 0} → (R → Mail → Bool) → (R → Mail → List Reply) → (R → Mail → List Reply → Outcome) → R → Mail → Outcome
+step_by is_sound replies_to outcome_of rules mail = if is_sound rules mail then outcome_of rules mail (replies_to rules mail) else nothing
+
+-- ---- What is owed
+
+-- each child's name is that of the mail with the child's number, where the first has this number
+abbrev pub AreNumbered : Name → ℕ → List Mail → Type 0
+AreNumbered name number [] = Unit {0}
+AreNumbered name number (child ∷ children) = (child.name ≡ child_name name number) × AreNumbered name (number + 1) children
+
+-- a body that was accepted is the mail's own
+abbrev pub IsOwnBody : Body → Body → Type 0
+IsOwnBody own (Original number len) = own ≡ Original number len
+IsOwnBody own (Made bytes) = Unit {0}
+
+abbrev pub HasOwnBody : Body → Fact → Type 0
+HasOwnBody own (Deposit repository sender recipients head body) = IsOwnBody own body
+HasOwnBody own other = Unit {0}
+
+-- a fact names one to 500 recipients, and what is deposited keeps the limits
+abbrev pub is_storable : Fact → Bool
+is_storable (Deposit repository sender recipients head body) =
+    has_recipients recipients && (nat_le (length (written head)) MAX_HEAD && is_small_body (body_len body))
+is_storable (Sent host recipient reply) = true
+is_storable (Retry host recipients attempt due) = has_recipients recipients
+is_storable (Bounce recipients) = has_recipients recipients
+is_storable (Dropped why recipients) = has_recipients recipients
+is_storable (FellOff processor recipients) = has_recipients recipients
+is_storable (Looped recipients) = has_recipients recipients
+is_storable Overrun = true

@@ -1,0 +1,70 @@
+ghost use Rattle.std.specs.Prelude.{◌≡◌, true};
+ghost use Rattle.mj_plan.specs.Sound.{IsSound};
+ghost use Rattle.mj_container.specs.Built.{is_built};
+
+use crate::running::draft;
+use mj_fields::{Items, Memory};
+use mj_mail::{Mail, NewMail, Outcome, Reply, Rules};
+use mj_plan::Plan;
+use std::alloc::Global;
+
+/// The rules of a sound plan of which each step is built.
+#[derive(Debug, Drop)]
+pub struct JamesRules {
+    pub plan: Plan,
+    ghost sound: { IsSound plan },
+    ghost built: { is_built plan ≡ true },
+}
+
+impl Rules for JamesRules {
+    ghost use Rattle.std.specs.Prelude.{◌≡◌, refl};
+    ghost use Rattle.mj_mail.specs.Mail.{first as first_mail};
+    ghost use Rattle.mj_container.specs.Running.{no_replies, step_with};
+    ghost use Rattle.mj_container.specs.Sound.{is_sound as is_sound_mail, measure as measure_of};
+    ghost use Rattle.mj_container.proofs.Laws as laws;
+
+    ghost first_of = { λ rules number new. first_mail rules.plan.start number new };
+
+    ghost replies_to = { λ rules mail. no_replies rules.plan mail };
+
+    ghost outcome_of = { λ rules mail replies. step_with rules.plan mail replies };
+
+    ghost is_sound = { λ rules mail. is_sound_mail rules.plan mail };
+
+    ghost measure = { measure_of };
+
+    fn first(&self, alloc: Global, number: u64, mail: &NewMail) -> Result<Mail, Memory> {
+        mail.first(alloc, self.plan.start, number)
+    }
+
+    fn replies(&self, alloc: Global, _mail: &Mail) -> Result<Items<Reply>, Memory> {
+        Ok(Items::new(alloc))
+    }
+
+    fn step(&self, alloc: Global, mail: &Mail, _replies: &Items<Reply>) -> Result<Outcome, Memory> {
+        let outcome = draft(alloc, &self.plan, mail)?;
+        outcome.numbered(alloc)
+    }
+
+    ghost first_sound = { λ rules number new acceptable. laws.first_sound rules.plan rules.sound number new acceptable };
+
+    ghost first_named = { λ rules number new. refl };
+
+    ghost first_body = { λ rules number new. refl };
+
+    ghost children_sound = { λ rules mail sound. laws.children_sound rules.plan rules.sound mail sound };
+
+    ghost children_named = { λ rules mail sound. laws.children_named rules.plan rules.sound mail };
+
+    ghost falls = { λ rules mail sound. laws.falls rules.plan rules.sound mail };
+
+    ghost facts_own = { λ rules mail sound. laws.facts_own rules.plan rules.sound mail sound };
+
+    ghost children_own = { λ rules mail sound. laws.children_own rules.plan rules.sound mail };
+
+    ghost facts_storable = { λ rules mail sound. laws.facts_storable rules.plan rules.sound mail sound };
+
+    ghost children_small = { λ rules mail sound. laws.children_small rules.plan rules.sound mail sound };
+
+    ghost stays = { λ rules mail sound. laws.stays rules.plan rules.sound mail rules.built sound };
+}
