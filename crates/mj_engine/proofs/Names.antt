@@ -8,7 +8,7 @@ use Rattle.mj_io.specs.Folder.{names_in}
 use Rattle.mj_mail.specs.declared.mail.NewMail.{NewMail}
 use Rattle.mj_mail.specs.Mail.{first}
 use Rattle.mj_mail.specs.Meaning.{meaning, tree}
-use Rattle.mj_config.specs.declared.fault.PlanFault.{PlanFault}
+use Rattle.mj_config_walk.specs.declared.fault.PlanFault.{PlanFault}
 use Rattle.mj_plan.specs.declared.plan.Plan.{Plan}
 use Rattle.mj_engine.specs.declared.refusal.Refusal.{Refusal}
 use Rattle.mj_engine.specs.declared.report.Report.{Report}

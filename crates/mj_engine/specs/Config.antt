@@ -8,10 +8,10 @@ use Rattle.mj_plan.specs.declared.matcher.MatchExpr.TheVariants.{One}
 use Rattle.mj_plan.specs.declared.plan.Plan.{Plan}
 use Rattle.mj_plan.specs.declared.plan.Processor.{Processor}
 use Rattle.mj_plan.specs.declared.plan.Step.{Step}
-use Rattle.mj_config.specs.declared.fault.PlanFault.{PlanFault}
-use Rattle.mj_config.specs.declared.fault.PlanFault.TheVariants.{Refused}
-use Rattle.mj_config.specs.declared.fault.PlanKind.TheVariants.{NoFile, NotBuilt}
-use Rattle.mj_config.specs.Walk.{◌then◌, plan}
+use Rattle.mj_config_walk.specs.declared.fault.PlanFault.{PlanFault}
+use Rattle.mj_config_walk.specs.declared.fault.PlanFault.TheVariants.{Refused}
+use Rattle.mj_config_walk.specs.declared.fault.PlanKind.TheVariants.{NoFile, NotBuilt}
+use Rattle.mj_config_walk.specs.Walk.{◌then◌, plan}
 
 -- the matchers and the mailets that this build carries out
 abbrev pub is_built_matcher : MatchExpr → Bool

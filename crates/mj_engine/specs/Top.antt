@@ -6,8 +6,8 @@ use Rattle.std.specs.Str.{bytes_eq}
 use Rattle.std.specs.declared.alloc.Global.{Global}
 use Rattle.mj_terms.specs.Causes.{Rose}
 use Rattle.mj_io.specs.Grown.{grown}
-use Rattle.mj_config.specs.declared.fault.PlanKind.{PlanKind}
-use Rattle.mj_config.specs.declared.fault.PlanKind.TheVariants.{NoFile, TooLarge, NotToml, Missing, WrongType, BadAddress, BadMoment, NoRoot, NoError, Twice, ReservedState, UnknownClass, UnknownMatcher, BadArgument, UnknownProcessor, TooDeep, TooMany, NotBuilt}
+use Rattle.mj_config_walk.specs.declared.fault.PlanKind.{PlanKind}
+use Rattle.mj_config_walk.specs.declared.fault.PlanKind.TheVariants.{NoFile, TooLarge, NotToml, Missing, WrongType, BadAddress, BadMoment, NoRoot, NoError, Twice, ReservedState, UnknownClass, UnknownMatcher, BadArgument, UnknownProcessor, TooDeep, TooMany, NotBuilt}
 
 -- the words are the one word `run`
 abbrev pub is_run : List (String Global) → Bool
