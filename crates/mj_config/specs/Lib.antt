@@ -1,10 +1,3 @@
-pub mod Classes
-pub mod Composites
-pub mod Faults
-pub mod Mailets
-pub mod Matchers
-pub mod Names
-pub mod Rest
 pub mod Seen
-pub mod Values
-pub mod Walk
+-- the walk that a plan is the result of
+pub use Rattle.mj_config_walk.specs.Walk

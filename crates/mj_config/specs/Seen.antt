@@ -1,21 +1,8 @@
--- What the parts that are read stand for.
-use Rattle.std.specs.Prelude.{◌≡◌, ℕ, false, map, List, [], ◌∷◌, IfSome}
-use Rattle.std.specs.Option.{option_map_or}
-use Rattle.std.specs.List.{list_any}
-use Rattle.std.specs.Str.{bytes_eq}
+-- What the front of a processor's table stands for.
+use Rattle.std.specs.Prelude.{map}
 use Rattle.toml.specs.View.{table_view}
-use Rattle.mj_plan.specs.declared.mailet.MailetKind.{MailetKind}
-use Rattle.mj_plan.specs.Sound.{outgoing_of}
 use Rattle.mj_config.specs.declared.header.Header.{Header}
-use Rattle.mj_config.specs.Walk as walk
+use Rattle.mj_config_walk.specs.Walk as walk
 
 abbrev pub header_seen : Header → walk.Header
 header_seen header = record { name = header.name.now; steps = map (λ t. table_view t.now) header.steps.items }
-
--- if the mailet is a remote delivery, its name isn't among these
-abbrev pub IsNew : List (List ℕ) → MailetKind → Type 0
-IsNew taken mailet = IfSome (outgoing_of mailet) (λ name. list_any (bytes_eq name) taken ≡ false)
-
--- the name of a remote delivery as a list
-abbrev pub deliveries_of : MailetKind → List (List ℕ)
-deliveries_of mailet = option_map_or (λ name. name ∷ []) (outgoing_of mailet) []

@@ -2,15 +2,15 @@
 ghost use Rattle.std.specs.Prelude.{option_map, IfOk};
 ghost use Rattle.mj_plan.specs.Sound.{IsSound};
 ghost use Rattle.toml.specs.View.{view, table_view};
-ghost use Rattle.mj_config.specs.Values.{Gives};
-ghost use Rattle.mj_config.specs.Walk.{Answers, document, located, plan, plan_of_document, plan_of_text, processors_in, rewrite_of, spool_in};
+ghost use Rattle.mj_config_walk.specs.Values.{Gives};
+ghost use Rattle.mj_config_walk.specs.Walk.{Answers, document, located, plan, plan_of_document, plan_of_text, processors_in, rewrite_of, spool_in};
 
-use crate::fault::{PlanFault, PlanKind, Refusal, fault_at};
+use crate::fault::fault_at;
 use crate::processors::processors_of;
 use crate::rewrite::rewrite;
-use crate::spool::{Spool, read_spool};
-use crate::tables::tables_or_none;
-use crate::values::value_at;
+use crate::spool::read_spool;
+use mj_config_values::{tables_or_none, value_at};
+use mj_config_walk::{PlanFault, PlanKind, Refusal, Spool};
 use mj_fields::Items;
 use mj_plan::{Mapping, Plan, Processor};
 use std::alloc::Global;
@@ -27,7 +27,7 @@ const MAX_PROCESSORS: usize = 100;
 /// the first 1,048,577 of them.
 ///
 /// Each plan that is answered is sound: it keeps every form, limit and reference.
-#[tactic(auto, using(crate::proofs::Sound::answers_sound))]
+#[tactic(auto, using(mj_config_sound::proofs::Sound::answers_sound))]
 pub fn read_plan(alloc: Global, bytes: &[u8]) -> Result<Plan, PlanFault>
     ensures exact { Answers result (plan bytes.now) }
     ensures sound { IfOk result IsSound }
@@ -35,7 +35,7 @@ pub fn read_plan(alloc: Global, bytes: &[u8]) -> Result<Plan, PlanFault>
     read_bytes(alloc, bytes)
 }
 
-#[tactic(auto, unfolding(crate::specs::Walk::plan))]
+#[tactic(auto, unfolding(mj_config_walk::specs::Walk::plan))]
 fn read_bytes(alloc: Global, bytes: &[u8]) -> Result<Plan, PlanFault>
     ensures { Answers result (plan bytes.now) }
 {
@@ -49,7 +49,7 @@ fn read_bytes(alloc: Global, bytes: &[u8]) -> Result<Plan, PlanFault>
     read_text(alloc, bytes)
 }
 
-#[tactic(auto, using(crate::proofs::Documents::document_read, crate::proofs::Documents::document_refused))]
+#[tactic(auto, using(mj_config_walk::proofs::Documents::document_read, mj_config_walk::proofs::Documents::document_refused))]
 fn read_text(alloc: Global, bytes: &[u8]) -> Result<Plan, PlanFault>
     ensures { Answers result (plan_of_text (document bytes.now)) }
 {

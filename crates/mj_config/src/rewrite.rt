@@ -1,14 +1,14 @@
 //! The rows `[[rewrite]]`.
 ghost use Rattle.std.specs.Prelude.{◌≡◌, map, option_map};
 ghost use Rattle.toml.specs.View.{view, table_view, items_view};
-ghost use Rattle.mj_config.specs.Values.{Gives, each};
-ghost use Rattle.mj_config.specs.Walk.{addresses_row, error_row, host_row, host_row_or_none, mapping_of, rewrite_of, targets};
+ghost use Rattle.mj_config_walk.specs.Values.{Gives, each};
+ghost use Rattle.mj_config_walk.specs.Walk.{addresses_row, error_row, host_row, host_row_or_none, mapping_of, rewrite_of, targets};
 
-use crate::arrays::addresses_in;
-use crate::fault::{PlanKind, Refusal};
-use crate::tables::tables_or_none;
-use crate::values::{TextForm, address, domain, formed, text, texts, value_at};
 use mj_address::Address;
+use mj_config_values::{
+    TextForm, address, addresses_in, domain, formed, tables_or_none, text, texts, value_at,
+};
+use mj_config_walk::{PlanKind, Refusal};
 use mj_fields::Items;
 use mj_plan::Mapping;
 use std::alloc::Global;

@@ -1,27 +1,18 @@
 //! The table `[spool]`.
 ghost use Rattle.std.specs.Prelude.{◌≡◌, option_map};
 ghost use Rattle.toml.specs.View.{view, table_view};
-ghost use Rattle.mj_config.specs.Values.{Gives, address, domain, domain_value, local_part, number, optional};
-ghost use Rattle.mj_config.specs.Walk.{address_value, each_value, moment_value, spool_of};
+ghost use Rattle.mj_config_walk.specs.Values.{Gives, address, domain, domain_value, local_part, number, optional};
+ghost use Rattle.mj_config_walk.specs.Walk.{address_value, each_value, moment_value, spool_of};
 
-use crate::arrays::{domains_in, local_parts_in};
-use crate::fault::Refusal;
-use crate::values::{address, domain_value, moment, number, required, text, texts, value_at};
 use mj_address::{Address, Domain};
+use mj_config_values::{
+    address, domain_value, domains_in, local_parts_in, moment, number, required, text, texts,
+    value_at,
+};
+use mj_config_walk::{Refusal, Spool};
 use mj_fields::{Bytes, Items};
 use std::alloc::Global;
 use toml::{Table, Value};
-
-/// What `[spool]` says.
-#[derive(Debug, Drop)]
-pub(crate) struct Spool {
-    pub(crate) host_name: Domain,
-    pub(crate) postmaster: Address,
-    pub(crate) local_hosts: Items<Domain>,
-    pub(crate) local_users: Items<Bytes>,
-    pub(crate) start: u64,
-    pub(crate) max_hops: u32,
-}
 
 /// What the table says, its keys in the order of the fields.
 pub(crate) fn read_spool(alloc: Global, table: &Table) -> Result<Spool, Refusal>

@@ -1,22 +1,22 @@
 //! The steps of a processor: a matcher, a mailet, and where a mail goes where one of them fails.
 ghost use Rattle.std.specs.Prelude.{◌≡◌, ◌≤◌, [], ◌∷◌, ◌++◌, length, map, option_map, IfOk, OnOk};
 ghost use Rattle.toml.specs.View.{view, table_view};
-ghost use Rattle.mj_config.specs.Values.{Gives, optional, target};
-ghost use Rattle.mj_config.specs.Seen.{IsNew, deliveries_of};
-ghost use Rattle.mj_config.specs.Walk.{Answers, deliveries, located, steps_from, default_mailet_route, default_match_route, mailet_route, mailet_route_of, match_route, match_route_of, step_of};
+ghost use Rattle.mj_config_walk.specs.Values.{Gives, optional, target};
+ghost use Rattle.mj_config_walk.specs.Deliveries.{IsNew, deliveries_of};
+ghost use Rattle.mj_config_walk.specs.Walk.{Answers, deliveries, located, steps_from, default_mailet_route, default_match_route, mailet_route, mailet_route_of, match_route, match_route_of, step_of};
 
-use crate::fault::{PlanFault, PlanKind, Refusal, fault_at};
-use crate::mailets::mailet_of;
-use crate::matchers::matcher;
-use crate::names::Names;
-use crate::values::{is, required, text, value_at};
+use crate::fault::fault_at;
+use mj_config_mailets::mailet_of;
+use mj_config_matchers::matcher;
+use mj_config_values::{Names, is, required, target, text, value_at};
+use mj_config_walk::{PlanFault, PlanKind, Refusal};
 use mj_fields::{Bytes, Items, Memory};
 use mj_plan::{MailetKind, MailetRoute, MatchRoute, Step};
 use std::alloc::Global;
 use toml::{Table, Value};
 
 /// The steps of the processor of this number. The names of their remote deliveries are taken then.
-#[tactic(auto, using(crate::proofs::InTurn::deliveries_more))]
+#[tactic(auto, using(mj_config_walk::proofs::InTurn::deliveries_more))]
 pub(crate) fn steps(
     alloc: Global,
     names: &Names,
@@ -132,14 +132,4 @@ fn mailet_route(alloc: Global, names: &Names, text: &[u8]) -> Result<MailetRoute
     } else {
         Ok(MailetRoute::To(target(alloc, names, text)?))
     }
-}
-
-/// The name of a processor that is there, or `ghost`.
-pub(crate) fn target(alloc: Global, names: &Names, text: &[u8]) -> Result<Bytes, Refusal>
-    ensures { Gives result (target names.now text.now) }
-{
-    if !is(text, "ghost") && !names.contains(text) {
-        return Err(Refusal::Kind(PlanKind::UnknownProcessor));
-    }
-    Ok(Bytes::from_slice(alloc, text)?)
 }

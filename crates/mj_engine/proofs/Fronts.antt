@@ -6,9 +6,9 @@ use Rattle.std.proofs.lemmas.Bool.{and_parts}
 use Rattle.std.proofs.lemmas.Str.{IsUtf8-from_is_utf8}
 use Rattle.mj_terms.specs.Limits.{within-take}
 use Rattle.mj_mailfile.specs.MailFile.{mail_file-take}
-use Rattle.mj_config.specs.Walk.{◌then◌, document, plan, plan_of_text}
-use Rattle.mj_config.specs.declared.fault.PlanFault.TheVariants.{Refused}
-use Rattle.mj_config.specs.declared.fault.PlanKind.TheVariants.{TooLarge}
+use Rattle.mj_config_walk.specs.Walk.{◌then◌, document, plan, plan_of_text}
+use Rattle.mj_config_walk.specs.declared.fault.PlanFault.TheVariants.{Refused}
+use Rattle.mj_config_walk.specs.declared.fault.PlanKind.TheVariants.{TooLarge}
 use Rattle.mj_engine.specs.Config.{built, configuration, plan_room}
 use Rattle.mj_engine.specs.Intake.{as_refusal, mail_in, mail_room}
 

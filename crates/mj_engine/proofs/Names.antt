@@ -7,7 +7,7 @@ use Rattle.std.proofs.lemmas.Option.{slice_get_within, get_or_from_slice_get}
 use Rattle.mj_io.specs.Folder.{names_in}
 use Rattle.mj_mail.specs.declared.mail.NewMail.{NewMail}
 use Rattle.mj_mail.specs.Mail.{first}
-use Rattle.mj_config.specs.declared.fault.PlanFault.{PlanFault}
+use Rattle.mj_config_walk.specs.declared.fault.PlanFault.{PlanFault}
 use Rattle.mj_plan.specs.declared.plan.Plan.{Plan}
 use Rattle.mj_report.specs.declared.files.Refusal.{Refusal}
 use Rattle.mj_engine.specs.declared.report.Report.{Report}

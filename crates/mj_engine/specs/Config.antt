@@ -3,11 +3,11 @@ use Rattle.std.specs.Prelude.{ℕ, ◌+◌, if◌then◌else◌, List, [], ◌�
 use Rattle.mj_plan.specs.declared.plan.Plan.{Plan}
 use Rattle.mj_plan.specs.declared.plan.Processor.{Processor}
 use Rattle.mj_plan.specs.declared.plan.Step.{Step}
-use Rattle.mj_config.specs.declared.fault.PlanFault.{PlanFault}
-use Rattle.mj_config.specs.declared.fault.PlanFault.TheVariants.{Refused}
-use Rattle.mj_config.specs.declared.fault.PlanKind.TheVariants.{NoFile, NotBuilt}
+use Rattle.mj_config_walk.specs.declared.fault.PlanFault.{PlanFault}
+use Rattle.mj_config_walk.specs.declared.fault.PlanFault.TheVariants.{Refused}
+use Rattle.mj_config_walk.specs.declared.fault.PlanKind.TheVariants.{NoFile, NotBuilt}
 use Rattle.mj_container.specs.Built.{is_built_step}
-use Rattle.mj_config.specs.Walk.{◌then◌, plan}
+use Rattle.mj_config_walk.specs.Walk.{◌then◌, plan}
 
 -- the number of the first step that isn't built, where the steps are counted from this number on
 abbrev pub unbuilt_step : ℕ → List Step → Option ℕ

@@ -4,8 +4,8 @@ use Rattle.std.specs.List.{flat_map}
 use Rattle.mj_io.specs.Folder.{file_at}
 use Rattle.mj_mail.specs.declared.mail.NewMail.{NewMail}
 use Rattle.mj_mail.specs.Mail.{first}
-use Rattle.mj_config.specs.declared.fault.PlanFault.{PlanFault}
-use Rattle.mj_config.specs.declared.fault.PlanFault.TheVariants as config
+use Rattle.mj_config_walk.specs.declared.fault.PlanFault.{PlanFault}
+use Rattle.mj_config_walk.specs.declared.fault.PlanFault.TheVariants as config
 use Rattle.mj_plan.specs.declared.plan.Plan.{Plan}
 use Rattle.mj_report.specs.declared.files.Refusal.{Refusal}
 use Rattle.mj_engine.specs.declared.report.Report.{Report}

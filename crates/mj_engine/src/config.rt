@@ -3,7 +3,7 @@ ghost use Rattle.std.specs.Prelude.{◌≡◌, ◌≤◌, nat_le, length, true, 
 ghost use Rattle.std.specs.List.{list_all};
 ghost use Rattle.std.specs.Option.{option_copied};
 ghost use Rattle.mj_plan.specs.Sound.{IsSound};
-ghost use Rattle.mj_config.specs.Walk.{Answers};
+ghost use Rattle.mj_config_walk.specs.Walk.{Answers};
 ghost use Rattle.mj_container.specs.Built.{is_built, is_built_mailet, is_built_matcher, is_built_step};
 ghost use Rattle.mj_engine.specs.Config.{built, configuration, unbuilt, unbuilt_step};
 

@@ -15,6 +15,3 @@ pub use forms::{
 pub use mailet::{MailetKind, Named};
 pub use matcher::MatchExpr;
 pub use plan::{MailetRoute, Mapping, MatchRoute, Plan, Processor, Step};
-
-#[cfg(test)]
-mod tests;

@@ -1,7 +1,7 @@
 use Rattle.std.proofs.Common.{◌≡◌, Some}
 use Rattle.toml.specs.View.{table_view}
-use Rattle.mj_config.specs.Walk.{document}
-use Rattle.mj_config.proofs.Documents.{document_read}
+use Rattle.mj_config_walk.specs.Walk.{document}
+use Rattle.mj_config_walk.proofs.Documents.{document_read}
 use Rattle.mj_config.proofs.plan.read_text.Goals as goal
 
 pub returns-in-Ok : goal.returns-in-Ok

@@ -1,7 +1,7 @@
 use Rattle.std.proofs.Common.{◌∙◌}
 use Rattle.toml.specs.View.{table_view}
-use Rattle.mj_config.specs.Walk.{mapping_of}
-use Rattle.mj_config.proofs.Ahead.{each_next}
+use Rattle.mj_config_walk.specs.Walk.{mapping_of}
+use Rattle.mj_config_walk.proofs.Ahead.{each_next}
 use Rattle.mj_config.proofs.rewrite.mappings.Goals as goal
 
 pub loop-row-preserved : goal.loop-row-preserved

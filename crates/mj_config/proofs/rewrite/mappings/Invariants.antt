@@ -1,8 +1,8 @@
 use Rattle.std.proofs.Common.{◌≡◌, drop, map}
 use Rattle.toml.specs.View.{table_view}
-use Rattle.mj_config.specs.Values.{each}
-use Rattle.mj_config.specs.Walk.{mapping_of}
-use Rattle.mj_config.proofs.Ahead.{ahead}
+use Rattle.mj_config_walk.specs.Values.{each}
+use Rattle.mj_config_walk.specs.Walk.{mapping_of}
+use Rattle.mj_config_walk.proofs.Ahead.{ahead}
 use Rattle.mj_config.proofs.rewrite.mappings.Given as goal
 
 abbrev pub invariant-loop-row : goal.invariant-loop-row

@@ -1,7 +1,7 @@
 use Rattle.std.proofs.Common.{arith, ap, length, ◌+◌, ◌∙◌}
 use Rattle.std.proofs.lemmas.List.{length_push}
 use Rattle.toml.specs.View.{table_view}
-use Rattle.mj_config.proofs.InTurn.{deliveries_more, step_next}
+use Rattle.mj_config_walk.proofs.InTurn.{deliveries_more, step_next}
 use Rattle.mj_config.proofs.steps.steps.Goals as goal
 
 pub loop-table-preserved : goal.loop-table-preserved

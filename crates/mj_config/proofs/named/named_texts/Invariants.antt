@@ -1,9 +1,0 @@
-use Rattle.std.proofs.Common.{◌≡◌}
-use Rattle.toml.specs.View.{members_view, table_view}
-use Rattle.mj_config.specs.Mailets.{named_texts}
-use Rattle.mj_config.proofs.Lists.{grown}
-use Rattle.mj_config.proofs.named.named_texts.Given as goal
-
--- the texts so far, and behind them those that are left
-abbrev pub invariant-loop-name : goal.invariant-loop-name
-invariant-loop-name l = grown l.named (named_texts (members_view l.name-iterator)) ≡ named_texts (table_view l.table)

@@ -1,0 +1,12 @@
+pub mod Fresh
+pub mod Holds
+pub mod Sorted
+pub mod SortedDocuments
+pub mod SortedNodes
+pub mod Sound
+pub mod SoundConditions
+pub mod SoundMailets
+pub mod SoundMatchers
+pub mod SoundProcessors
+pub mod SoundSpool
+pub mod SoundSteps

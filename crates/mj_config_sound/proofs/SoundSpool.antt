@@ -1,0 +1,128 @@
+-- The moment, the limit of hops and the rewrite rows that a document is read to have their forms.
+use Rattle.std.proofs.Common.{◌≡◌, ℕ, ◌<◌, true, List, [], ◌∷◌, length, Option, Some, None, Result, Ok, Err, refl, ap, ◌∙◌, ◌&&◌, arith}
+use Rattle.std.specs.Prelude.{nat_le, codes}
+use Rattle.std.proofs.lemmas.Bool.Decides.{nat_tests}
+use Rattle.std.specs.List.{list_all}
+use Rattle.toml.specs.Data.{Data, Items, Members, get_member}
+use Rattle.mj_time.specs.declared.moments.MomentFault.{MomentFault}
+use Rattle.mj_time.specs.Moment.{moment_of}
+use Rattle.mj_time.proofs.Bounds.{moment_small}
+use Rattle.mj_plan.specs.declared.plan.Mapping.{Mapping}
+use Rattle.mj_plan.specs.declared.plan.Mapping.TheVariants as mapping
+use Rattle.mj_plan.specs.Forms.{is_line}
+use Rattle.mj_plan.specs.Sound.{is_between, has_items, is_mapping}
+use Rattle.mj_config_walk.specs.declared.fault.PlanKind.{PlanKind}
+use Rattle.mj_config_walk.specs.declared.fault.PlanKind.TheVariants.{Missing, BadArgument, BadMoment, TooMany}
+use Rattle.mj_config_walk.specs.declared.spool.Spool.{Spool}
+use Rattle.mj_config_walk.specs.Values.{required, text, texts, number, whole, in_moment, address, domain, domain_value, local_part, each, each_text, tables}
+use Rattle.mj_config_walk.specs.Walk.{table_or_none, address_value, moment_value, each_value, spool_of, spool_in, tables_or_none, addresses_row, error_row, host_row, host_row_or_none, row_with, mapping_of, rewrite_of, targets}
+use Rattle.mj_config_sound.proofs.Holds.{Holds, ok, err, bind, skip, checks, form_of, optional_of}
+
+-- ---- [spool]
+
+-- the moment, and the limit of hops
+pub record IsSpool (spool : Spool) : Type 0 where
+  pub start : spool.start < 4_133_980_800_000
+  pub max_hops : is_between 1 1_000 spool.max_hops ≡ true
+
+pub number_of : (least most : ℕ) (value : Data) → Holds (λ n. is_between least most n ≡ true) (number least most value)
+number_of least most value = skip (whole value) (λ n. checks (is_between least most n) BadArgument n (λ h. h))
+
+in_moment_of : (r : Result ℕ MomentFault) → ((m : ℕ) → r ≡ Ok m → m < 4_133_980_800_000) → Holds (λ m. m < 4_133_980_800_000) (in_moment r)
+in_moment_of (Ok m) h = ok m (h m refl)
+in_moment_of (Err fault) h = err BadMoment
+
+moment_value_of : (value : Data) → Holds (λ m. m < 4_133_980_800_000) (moment_value value)
+moment_value_of value = skip (text value) (λ s. in_moment_of (moment_of s) (λ m e. moment_small s m e))
+
+spool_of_of : (members : Members) → Holds IsSpool (spool_of members)
+spool_of_of members =
+    skip (required (codes "host_name") members) (λ value.
+    skip (domain_value value) (λ host_name.
+    skip (required (codes "postmaster") members) (λ value.
+    skip (address_value value) (λ postmaster.
+    skip (required (codes "local_hosts") members) (λ value.
+    skip (each_value domain value) (λ local_hosts.
+    skip (required (codes "local_users") members) (λ value.
+    skip (each_value local_part value) (λ local_users.
+    skip (required (codes "start") members) (λ value.
+    bind (moment_value_of value) (λ start h.
+    bind (optional_of {Q = λ n. is_between 1 1_000 n ≡ true} 100 (number 1 1_000) (get_member (codes "max_hops") members) refl (number_of 1 1_000)) (λ max_hops k.
+    ok (record { host_name = host_name; postmaster = postmaster; local_hosts = local_hosts; local_users = local_users; start = start; max_hops = max_hops })
+    (record { start = h; max_hops = k }))))))))))))
+
+pub spool_sound : (value : Option Data) → Holds IsSpool (spool_in value)
+spool_sound value = skip (table_or_none value) spool_of_of
+
+-- ---- [[rewrite]]
+
+some_targets : (n : ℕ) → nat_le n 100 ≡ true → nat_le 1 n ≡ true → is_between 1 100 n ≡ true
+some_targets n few some = rw (some, few)
+
+targets_of : (to : Items) → Holds (λ to. has_items 100 to ≡ true) (targets to)
+targets_of to =
+    skip (each_text address to) (λ to.
+    bind (checks {Q = λ to. nat_le (length to) 100 ≡ true} (nat_le (length to) 100) TooMany to (λ h. h)) (λ to few.
+    checks (nat_le 1 (length to)) BadArgument to (λ some. some_targets (length to) few some)))
+
+addresses_row_of : (from to : Data) → Holds (λ m. is_mapping m ≡ true) (addresses_row from to)
+addresses_row_of from to =
+    skip (text from) (λ from.
+    skip (texts to) (λ to.
+    skip (address from) (λ from.
+    bind (targets_of to) (λ to h. ok (mapping.Addresses from to) h))))
+
+error_row_of : (from error : Data) → Holds (λ m. is_mapping m ≡ true) (error_row from error)
+error_row_of from error =
+    skip (text from) (λ from.
+    skip (text error) (λ error.
+    skip (address from) (λ from.
+    bind (form_of is_line error) (λ error h. ok (mapping.Error from error) h))))
+
+host_row_of : (from to : Data) → Holds (λ m. is_mapping m ≡ true) (host_row from to)
+host_row_of from to =
+    skip (text from) (λ from.
+    skip (text to) (λ to.
+    skip (domain from) (λ from.
+    skip (domain to) (λ to. ok (mapping.Host from to) refl))))
+
+host_row_or_none_of : (from to : Option Data) → Holds (λ m. is_mapping m ≡ true) (host_row_or_none from to)
+host_row_or_none_of (Some from) (Some to) = host_row_of from to
+host_row_or_none_of None to = err Missing
+host_row_or_none_of (Some from) None = err Missing
+
+row_with_of : (from to error : Option Data) (other : Result Mapping PlanKind) → Holds (λ m. is_mapping m ≡ true) other → Holds (λ m. is_mapping m ≡ true) (row_with from to error other)
+row_with_of (Some from) (Some to) error other h = addresses_row_of from to
+row_with_of (Some from) None (Some error) other h = error_row_of from error
+row_with_of (Some from) None None other h = h
+row_with_of None to error other h = h
+
+mapping_of_of : (row : Members) → Holds (λ m. is_mapping m ≡ true) (mapping_of row)
+mapping_of_of row =
+    row_with_of (get_member (codes "from") row) (get_member (codes "to") row) (get_member (codes "error") row)
+    (host_row_or_none (get_member (codes "domain") row) (get_member (codes "to_domain") row))
+    (host_row_or_none_of (get_member (codes "domain") row) (get_member (codes "to_domain") row))
+
+record AreMappings (count : ℕ) (mappings : List Mapping) : Type 0 where
+  long : length mappings ≡ count
+  formed : list_all is_mapping mappings ≡ true
+
+mappings_more : (row : Members) (rows : List Members) (first : Mapping) (others : List Mapping) → is_mapping first ≡ true → AreMappings (length rows) others → AreMappings (length (row ∷ rows)) (first ∷ others)
+mappings_more row rows first others h k = record { long = omega (arith, k.long); formed = rw (h, k.formed) }
+
+mappings_of_of : (rows : List Members) → Holds (AreMappings (length rows)) (each mapping_of rows)
+mappings_of_of [] = ok [] (record { long = refl; formed = refl })
+mappings_of_of (row ∷ rows) = bind (mapping_of_of row) (λ first h. bind (mappings_of_of rows) (λ others k. ok (first ∷ others) (mappings_more row rows first others h k)))
+
+few_rows : (most : ℕ) (value : Option Data) → Holds (λ all. nat_le (length all) most ≡ true) (tables_or_none most value)
+few_rows most None = ok [] (grind (arith, nat_tests))
+few_rows most (Some value) = skip (tables value) (λ all. checks (nat_le (length all) most) TooMany all (λ h. h))
+
+few_mappings : (rows : List Members) (mappings : List Mapping) → nat_le (length rows) 1_000 ≡ true → AreMappings (length rows) mappings → (nat_le (length mappings) 1_000 && list_all is_mapping mappings) ≡ true
+few_mappings rows mappings few h =
+    let short : nat_le (length mappings) 1_000 ≡ true = ap (λ n. nat_le n 1_000) h.long ∙ few in
+    rw (short, h.formed)
+
+pub rewrite_sound : (value : Option Data) → Holds (λ mappings. (nat_le (length mappings) 1_000 && list_all is_mapping mappings) ≡ true) (rewrite_of value)
+rewrite_sound value =
+    bind (few_rows 1_000 value) (λ rows few. record { of = λ mappings e. few_mappings rows mappings few ((mappings_of_of rows).of mappings e) })

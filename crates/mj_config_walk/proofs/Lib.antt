@@ -1,0 +1,11 @@
+pub mod Added
+pub mod Ahead
+pub mod Attributes
+pub mod Children
+pub mod Cuts
+pub mod Decimals
+pub mod Deliveries
+pub mod Documents
+pub mod InTurn
+pub mod Seen
+pub mod Spaces

@@ -1,0 +1,10 @@
+pub mod Arguments
+pub mod Classes
+pub mod Conditions
+pub mod Deliveries
+pub mod Faults
+pub mod Mailets
+pub mod Matchers
+pub mod Rest
+pub mod Values
+pub mod Walk
