@@ -1,8 +1,8 @@
 //! Forms of texts at their limits, and look-ups in a plan.
 use super::*;
 use mj_address::{Address, Domain};
+use mj_delays::Schedule;
 use mj_fields::{Bytes, Items, Memory};
-use mj_time::Schedule;
 use std::alloc::Global;
 use std::test::Fail;
 

@@ -1,8 +1,8 @@
 use Rattle.std.proofs.Common.{◌≡◌, ◌+◌, ◌*◌, ◌≤◌, length, Some}
 use Rattle.std.specs.Option.{option_copied}
-use Rattle.mj_time.specs.Schedule.{◌>>=◌, entries_from, schedule_of}
-use Rattle.mj_time.specs.Draft.{completed, left, parts_of}
-use Rattle.mj_time.proofs.schedules.read_text.Given as goal
+use Rattle.mj_delays.specs.Schedule.{◌>>=◌, entries_from, schedule_of}
+use Rattle.mj_delays.specs.Draft.{completed, left, parts_of}
+use Rattle.mj_delays.proofs.schedules.read_text.Given as goal
 
 -- the draft, completed by the entries that are left, is the schedule of the text
 abbrev pub invariant-loop-rest : goal.invariant-loop-rest

@@ -2,11 +2,11 @@
 ghost use Rattle.std.specs.Prelude.{◌≡◌, ◌+◌, ◌-◌, ◌≤◌, ◌<◌, ◌^◌, [], ◌∷◌, ◌++◌, true, length, replicate, vec_len, slice_get, ◌↔◌, IsNone, IfOk, IfSome, OnOk};
 ghost use Rattle.std.specs.List.{list_all, slice_split};
 ghost use Rattle.std.specs.Option.{option_copied, ForSome};
-ghost use Rattle.mj_time.specs.declared.schedules.ScheduleFault.TheVariants.{Memory};
-ghost use Rattle.mj_time.specs.Limits.{IsSchedule, is_short};
-ghost use Rattle.mj_time.specs.Delays.{entry_of};
-ghost use Rattle.mj_time.specs.Schedule.{Gives, checked, extended, is_comma, schedule_of};
-ghost use Rattle.mj_time.specs.Draft.{completed, left, parts_of};
+ghost use Rattle.mj_delays.specs.declared.schedules.ScheduleFault.TheVariants.{Memory};
+ghost use Rattle.mj_delays.specs.Limits.{IsSchedule, is_short};
+ghost use Rattle.mj_delays.specs.Delays.{entry_of};
+ghost use Rattle.mj_delays.specs.Schedule.{Gives, checked, extended, is_comma, schedule_of};
+ghost use Rattle.mj_delays.specs.Draft.{completed, left, parts_of};
 
 use crate::delays::{Entry, read_entry};
 use crate::texts::place_of;
@@ -60,7 +60,7 @@ pub struct Schedule {
 
 impl Model for Schedule {
     ghost use Rattle.std.specs.Prelude.{List, ℕ};
-    ghost use Rattle.mj_time.specs.Limits.{IsSchedule};
+    ghost use Rattle.mj_delays.specs.Limits.{IsSchedule};
 
     ghost Value = { List ℕ };
 

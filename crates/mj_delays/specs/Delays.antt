@@ -3,9 +3,9 @@ use Rattle.std.specs.Prelude.{ℕ, ◌+◌, ◌*◌, ◌==◌, Bool, if◌then�
 use Rattle.std.specs.List.{list_any, prefix_len}
 use Rattle.std.specs.Char.{is_ascii_digit}
 use Rattle.mj_terms.specs.Text.{trimmed, same_text}
-use Rattle.mj_time.specs.Digits.{numeral_of}
-use Rattle.mj_time.specs.Steps.{◌>>=◌}
-use Rattle.mj_time.specs.declared.delays.Entry.{Entry}
+use Rattle.mj_delays.specs.Digits.{numeral_of}
+use Rattle.mj_delays.specs.Steps.{◌>>=◌}
+use Rattle.mj_delays.specs.declared.delays.Entry.{Entry}
 
 -- the name is one of these, without regard to ASCII case
 abbrev pub is_one_of : List (List ℕ) → List ℕ → Bool

@@ -1,7 +1,7 @@
 use Rattle.std.proofs.Common.{◌≤◌, arith}
 use Rattle.std.proofs.Math.Nat.{pow-le-pow_right}
-use Rattle.mj_time.proofs.Numerals.{digit_at, next_digit, power_of_ten}
-use Rattle.mj_time.proofs.digits.value_of.Goals as goal
+use Rattle.mj_delays.proofs.Numerals.{digit_at, next_digit, power_of_ten}
+use Rattle.mj_delays.proofs.digits.value_of.Goals as goal
 
 pub overflow_mul-value : goal.overflow_mul-value
 overflow_mul-value c =

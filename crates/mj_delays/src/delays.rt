@@ -3,7 +3,7 @@ ghost use Rattle.std.specs.Prelude.{◌≡◌, ◌+◌, ◌*◌, ◌<◌, ◌≤
 ghost use Rattle.std.specs.List.{list_any, prefix_len};
 ghost use Rattle.std.specs.Char.{is_ascii_digit};
 ghost use Rattle.mj_terms.specs.Text.{same_text};
-ghost use Rattle.mj_time.specs.Delays.{unit_of, delay_in, attempts_in, entry_of};
+ghost use Rattle.mj_delays.specs.Delays.{unit_of, delay_in, attempts_in, entry_of};
 
 use crate::digits::numeral;
 use crate::texts::{place_of, trimmed};

@@ -3,7 +3,7 @@ ghost use Rattle.std.specs.Prelude.{◌≡◌, ◌≤◌, ◌<◌, ◌^◌, true
 ghost use Rattle.std.specs.List.{list_all};
 ghost use Rattle.std.specs.Char.{is_ascii_digit};
 ghost use Rattle.std.specs.Str.Parse.{digits_value};
-ghost use Rattle.mj_time.specs.Digits.{is_numeral, numeral_of};
+ghost use Rattle.mj_delays.specs.Digits.{is_numeral, numeral_of};
 
 /// Whether each byte is a decimal digit.
 fn are_digits(text: &[u8]) -> bool

@@ -1,6 +1,6 @@
 use Rattle.std.proofs.Common.{◌≡◌, length}
 use Rattle.mj_terms.specs.Text.{trim_back}
-use Rattle.mj_time.proofs.texts.trim_back.Given as goal
+use Rattle.mj_delays.proofs.texts.trim_back.Given as goal
 
 -- what is left trims to the same
 abbrev pub invariant-loop-last : goal.invariant-loop-last

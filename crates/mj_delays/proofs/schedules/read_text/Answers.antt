@@ -1,8 +1,8 @@
 use Rattle.std.proofs.Common.{arith, ap, sym, ◌∙◌}
 use Rattle.std.specs.Option.{option_copied}
-use Rattle.mj_time.specs.Draft.{left, parts_of}
-use Rattle.mj_time.proofs.Drafts.{completed_start, completed_ok}
-use Rattle.mj_time.proofs.schedules.read_text.Goals as goal
+use Rattle.mj_delays.specs.Draft.{left, parts_of}
+use Rattle.mj_delays.proofs.Drafts.{completed_start, completed_ok}
+use Rattle.mj_delays.proofs.schedules.read_text.Goals as goal
 
 pub loop-rest-init : goal.loop-rest-init
 loop-rest-init c = record {

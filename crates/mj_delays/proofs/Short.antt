@@ -5,7 +5,7 @@ use Rattle.std.proofs.lemmas.Bool.Decides.{nat_tests}
 use Rattle.std.proofs.lemmas.List.Elements.{All-take, All-replicate}
 use Rattle.std.proofs.lemmas.List.Folds.{list_all_at, list_all-append}
 use Rattle.std.proofs.lemmas.List.Sums.{AllPass-from_list_all, list_all-from_AllPass}
-use Rattle.mj_time.specs.Limits.{is_short}
+use Rattle.mj_delays.specs.Limits.{is_short}
 
 short_take : (n : ℕ) (xs : List ℕ) → list_all is_short xs ≡ true → list_all is_short (take n xs) ≡ true
 short_take n xs h = list_all-from_AllPass is_short (take n xs) (All-take (λ x. is_short x ≡ true) n xs (AllPass-from_list_all is_short xs h))

@@ -3,12 +3,12 @@ use Rattle.std.proofs.Common.{◌≡◌, ℕ, ◌+◌, ◌≤◌, max, Bool, tru
 use Rattle.std.specs.List.{slice_split}
 use Rattle.std.proofs.lemmas.Grind.{common_steps}
 use Rattle.std.proofs.lemmas.Bool.Decides.{nat_tests}
-use Rattle.mj_time.specs.declared.delays.Entry.{Entry}
-use Rattle.mj_time.specs.declared.schedules.ScheduleFault.{ScheduleFault}
-use Rattle.mj_time.specs.declared.schedules.ScheduleFault.TheVariants.{TooMany}
-use Rattle.mj_time.specs.Delays.{entry_of}
-use Rattle.mj_time.specs.Schedule.{◌>>=◌, attempts, checked, default_entry, entries_from, extended, is_comma, list_of, schedule_of, written_out}
-use Rattle.mj_time.specs.Draft.{completed}
+use Rattle.mj_delays.specs.declared.delays.Entry.{Entry}
+use Rattle.mj_delays.specs.declared.schedules.ScheduleFault.{ScheduleFault}
+use Rattle.mj_delays.specs.declared.schedules.ScheduleFault.TheVariants.{TooMany}
+use Rattle.mj_delays.specs.Delays.{entry_of}
+use Rattle.mj_delays.specs.Schedule.{◌>>=◌, attempts, checked, default_entry, entries_from, extended, is_comma, list_of, schedule_of, written_out}
+use Rattle.mj_delays.specs.Draft.{completed}
 
 -- the schedule of so many attempts with these delays
 kept : ℕ → ℕ → List ℕ → Result (List ℕ) ScheduleFault

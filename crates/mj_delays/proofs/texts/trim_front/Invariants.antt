@@ -1,6 +1,6 @@
 use Rattle.std.proofs.Common.{◌≡◌, length}
 use Rattle.mj_terms.specs.Text.{trim_front}
-use Rattle.mj_time.proofs.texts.trim_front.Given as goal
+use Rattle.mj_delays.proofs.texts.trim_front.Given as goal
 
 -- what is left trims to the same
 abbrev pub invariant-loop-first : goal.invariant-loop-first

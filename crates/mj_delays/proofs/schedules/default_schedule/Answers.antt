@@ -1,7 +1,7 @@
 use Rattle.std.proofs.Common.{subst}
-use Rattle.mj_time.specs.Schedule.{Gives}
-use Rattle.mj_time.proofs.Drafts.{completed_default}
-use Rattle.mj_time.proofs.schedules.default_schedule.Goals as goal
+use Rattle.mj_delays.specs.Schedule.{Gives}
+use Rattle.mj_delays.proofs.Drafts.{completed_default}
+use Rattle.mj_delays.proofs.schedules.default_schedule.Goals as goal
 
 pub returns : goal.returns
 returns c =

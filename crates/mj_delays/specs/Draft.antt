@@ -1,10 +1,10 @@
 -- A schedule while its text is read: how many attempts there are so far, and their delays, which count only up to 100.
 use Rattle.std.specs.Prelude.{ℕ, ◌+◌, ◌++◌, max, nat_lt, if◌then◌else◌, List, [], length, Option, Some, None, Result, Ok, Err}
 use Rattle.std.specs.List.{slice_split}
-use Rattle.mj_time.specs.Schedule.{attempts, written_out, extended, is_comma}
-use Rattle.mj_time.specs.declared.delays.Entry.{Entry}
-use Rattle.mj_time.specs.declared.schedules.ScheduleFault.{ScheduleFault}
-use Rattle.mj_time.specs.declared.schedules.ScheduleFault.TheVariants.{TooMany}
+use Rattle.mj_delays.specs.Schedule.{attempts, written_out, extended, is_comma}
+use Rattle.mj_delays.specs.declared.delays.Entry.{Entry}
+use Rattle.mj_delays.specs.declared.schedules.ScheduleFault.{ScheduleFault}
+use Rattle.mj_delays.specs.declared.schedules.ScheduleFault.TheVariants.{TooMany}
 
 -- the schedule for n retries, once the entries that are left are read
 unfoldable pub completed : ℕ → ℕ → List ℕ → List Entry → Result (List ℕ) ScheduleFault

@@ -1,6 +1,6 @@
 use Rattle.std.proofs.Common.{◌≡◌, ◌<◌, ◌^◌, take}
 use Rattle.std.specs.Str.Parse.{digits_value}
-use Rattle.mj_time.proofs.digits.value_of.Given as goal
+use Rattle.mj_delays.proofs.digits.value_of.Given as goal
 
 -- the number that the digits so far spell
 abbrev pub invariant-loop-byte : goal.invariant-loop-byte

@@ -1,10 +1,10 @@
 -- The list of delays that a delay text and a number of retries give.
 use Rattle.std.specs.Prelude.{◌≡◌, ℕ, ◌+◌, ◌-◌, ◌==◌, max, Bool, nat_lt, if◌then◌else◌, List, [], ◌∷◌, ◌++◌, length, replicate, slice_index, Option, Some, None, Result, Ok, Err}
 use Rattle.std.specs.List.{slice_split}
-use Rattle.mj_time.specs.Delays.{entry_of}
-use Rattle.mj_time.specs.declared.delays.Entry.{Entry}
-use Rattle.mj_time.specs.declared.schedules.ScheduleFault.{ScheduleFault}
-use Rattle.mj_time.specs.declared.schedules.ScheduleFault.TheVariants.{BadDelay, TooLong, TooMany, Memory}
+use Rattle.mj_delays.specs.Delays.{entry_of}
+use Rattle.mj_delays.specs.declared.delays.Entry.{Entry}
+use Rattle.mj_delays.specs.declared.schedules.ScheduleFault.{ScheduleFault}
+use Rattle.mj_delays.specs.declared.schedules.ScheduleFault.TheVariants.{BadDelay, TooLong, TooMany, Memory}
 
 infixl 10 ◌>>=◌
 abbrev pub ◌>>=◌ : {A B : Type 0} → Result A ScheduleFault → (A → Result B ScheduleFault) → Result B ScheduleFault
