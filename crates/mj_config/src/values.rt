@@ -7,12 +7,13 @@ ghost use Rattle.mj_config.specs.Values.{Gives, GivesBy, required, text, whole, 
 
 use crate::fault::{PlanKind, Refusal};
 use mj_address::{Address, AddressFault, Domain, judge_local};
+use mj_delays::numeral;
 use mj_fields::Bytes;
 use mj_head::is_field_name;
 use mj_plan::{
     is_attribute_name, is_attribute_value, is_line, is_processor_name, is_reply_code, is_repository,
 };
-use mj_time::{MomentFault, numeral, read_moment};
+use mj_time::{MomentFault, read_moment};
 use std::alloc::Global;
 use toml::{Table, Value};
 
