@@ -7,7 +7,6 @@ mod field;
 mod fields;
 mod head;
 mod line;
-mod plain;
 mod read;
 mod unfold;
 mod walk;

@@ -3,9 +3,9 @@ use Rattle.std.proofs.Common.{◌≡◌, ℕ, Bool, ◌+◌, eqb, List, get_or, 
 use Rattle.std.proofs.lemmas.Simd.{get_or-chunk}
 use lib.Lanes.{chunk}
 use Rattle.mj_terms.specs.Text.{is_blank}
-use Rattle.mj_head.specs.Head.{is_name_byte}
-use Rattle.mj_head.specs.Plain.{Marks}
-use Rattle.mj_head.proofs.plain.masks_of.Goals as goal
+use Rattle.mj_head_lines.specs.Lines.{is_name_byte}
+use Rattle.mj_head_lines.specs.Plain.{Marks}
+use Rattle.mj_head_lines.proofs.plain.masks_of.Goals as goal
 
 of_text : (test : ℕ → Bool) (text : List ℕ) (mask : ℕ) → Marks test (chunk 0 64 text) mask → Marks test text mask
 of_text test text mask h = record { each = λ k l. let front : 0 + k ≡ k = omega arith in h.each k l ∙ ap test (get_or-chunk 0 64 text k 0 l ∙ ap (λ i. get_or text i 0) front) }

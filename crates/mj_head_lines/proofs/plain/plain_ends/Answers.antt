@@ -1,11 +1,11 @@
 -- From the bits of the masks to the bytes of the text.
 use Rattle.std.proofs.Common.{◌≡◌, ◌⊎◌, ℕ, zero, suc, ◌-◌, ◌<◌, ◌≤◌, true, false, ◌||◌, List, length, get_or, inl, inr, refl, sym, ap, ap₂, ◌∙◌, arith}
 use Rattle.std.proofs.lemmas.Bool.{and_from, and_parts, not-true, not_from_false, eqb-true, eq-eqb, false≢true}
-use Rattle.mj_head.specs.declared.plain.Masks.{Masks}
-use Rattle.mj_head.specs.Plain.{has_bit, any_to, has_bit_before, begins_line, AreMasks, ShowsFaults, IsLineAt, IsPlainAt}
-use Rattle.mj_head.proofs.PlainBits.{any_less, any_here}
-use Rattle.mj_head.proofs.PlainLines.{plain_at}
-use Rattle.mj_head.proofs.plain.plain_ends.Goals as goal
+use Rattle.mj_head_lines.specs.declared.plain.Masks.{Masks}
+use Rattle.mj_head_lines.specs.Plain.{has_bit, any_to, has_bit_before, begins_line, AreMasks, ShowsFaults, IsLineAt, IsPlainAt}
+use Rattle.mj_head_lines.proofs.Bits.{any_less, any_here}
+use Rattle.mj_head_lines.proofs.PlainLines.{plain_at}
+use Rattle.mj_head_lines.proofs.plain.plain_ends.Goals as goal
 
 -- where the mask of CR has the bit before, the byte before is CR
 behind_is : (text : List ℕ) (m : Masks) (k : ℕ) → AreMasks text m → k < 64 → has_bit_before m.cr k ≡ true → (0 < k) × (get_or text (k - 1) 0 ≡ 13)

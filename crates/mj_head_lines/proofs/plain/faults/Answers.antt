@@ -1,8 +1,8 @@
 use Rattle.std.proofs.Common.{◌≡◌, ℕ, ◌-◌, ◌%◌, ◌*◌, ◌^◌, ◌<◌, Bool, true, false, not, ◌&&◌, ◌||◌, refl, sym, ap₂, ◌∙◌, arith, bit_and, bit_or}
 use Rattle.std.proofs.lemmas.Bool.{or_parts, not-false}
-use Rattle.mj_head.specs.Plain.{has_bit}
-use Rattle.mj_head.proofs.PlainBits.{bit-and, bit-or, bit-not, bit-up}
-use Rattle.mj_head.proofs.plain.faults.Goals as goal
+use Rattle.mj_head_lines.specs.Plain.{has_bit}
+use Rattle.mj_head_lines.proofs.Bits.{bit-and, bit-or, bit-not, bit-up}
+use Rattle.mj_head_lines.proofs.plain.faults.Goals as goal
 
 -- a bit of a mask is one of the other too where `mask & !other` has none
 in_other : (a b k : ℕ) → b < 2 ^ 64 → k < 64 → has_bit (bit_and a (2 ^ 64 - 1 - b)) k ≡ false → has_bit a k ≡ true → has_bit b k ≡ true

@@ -1,7 +1,7 @@
 use Rattle.std.proofs.Common.{eqb}
 use Rattle.std.proofs.lemmas.Simd.{zip2_splat}
-use Rattle.mj_head.proofs.PlainBits.{marked, top_of_cond}
-use Rattle.mj_head.proofs.plain.marks_of.Goals as goal
+use Rattle.mj_head_lines.proofs.Bits.{marked, top_of_cond}
+use Rattle.mj_head_lines.proofs.plain.marks_of.Goals as goal
 
 pub returns : goal.returns
 returns c =

@@ -1,8 +1,8 @@
 //! Plain lines: how much of a block of 64 bytes can be taken as it stands, by masks of its bytes.
 ghost use Rattle.std.specs.Prelude.{◌≡◌, ℕ, ◌<◌, ◌≤◌, length, true, false, not, ◌&&◌, ◌==◌};
 ghost use Rattle.mj_terms.specs.Text.{is_blank};
-ghost use Rattle.mj_head.specs.Head.{is_name_byte};
-ghost use Rattle.mj_head.specs.Plain.{ArePlain, ArePlainEnds, AreMasks, Marks, ShowsFaults, begins_line, any_to, has_bit};
+ghost use Rattle.mj_head_lines.specs.Lines.{is_name_byte};
+ghost use Rattle.mj_head_lines.specs.Plain.{ArePlain, ArePlainEnds, AreMasks, Marks, ShowsFaults, begins_line, any_to, has_bit};
 
 use std::simd::prelude::*;
 
@@ -106,7 +106,7 @@ fn plain_ends(text: &[u8]) -> u64
 
 /// How many bytes at the front are whole plain lines, and how many lines these are. At most the
 /// first 64 bytes are looked at, and none where there are fewer.
-pub(crate) fn plain_lines(text: &[u8]) -> (usize, u32)
+pub fn plain_lines(text: &[u8]) -> (usize, u32)
     ensures within { result.0 ≤ length text.now }
     ensures short { result.0 ≤ 64 }
     ensures lines { ArePlain text.now result.0 result.1 }

@@ -3,8 +3,8 @@ use Rattle.std.specs.Prelude.{◌≡◌, ◌≢◌, ◌⊎◌, ℕ, zero, suc, �
 use Rattle.std.specs.Int.{bit_at}
 use Rattle.std.specs.List.{list_all, list_any, flat_map}
 use Rattle.mj_terms.specs.Text.{is_blank}
-use Rattle.mj_head.specs.declared.plain.Masks.{Masks}
-use Rattle.mj_head.specs.Head.{before_colon, is_field_name, is_continuation, is_name_byte}
+use Rattle.mj_head_lines.specs.declared.plain.Masks.{Masks}
+use Rattle.mj_head_lines.specs.Lines.{before_colon, is_field_name, is_continuation, is_name_byte}
 
 -- a plain line has no LF, and it continues the field before it or has a name right before its first colon
 abbrev pub is_plain : List ℕ → Bool

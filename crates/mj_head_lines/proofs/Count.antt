@@ -9,7 +9,7 @@ use Rattle.std.proofs.lemmas.List.{append-nil, length_push}
 use Rattle.std.proofs.lemmas.List.Folds.{list_all-append}
 use Rattle.std.proofs.lemmas.Nat.{ones_cat, mod-pow-add, leading_top}
 use Rattle.std.proofs.lemmas.Nat.Bits.{bit_at-lt}
-use Rattle.mj_head.specs.Plain.{has_bit, is_plain, with_ends, ArePlain, IsLineAt, IsPlainAt, ArePlainEnds}
+use Rattle.mj_head_lines.specs.Plain.{has_bit, is_plain, with_ends, ArePlain, IsLineAt, IsPlainAt, ArePlainEnds}
 
 no_lines : (text : List ℕ) (len count : ℕ) → len ≡ 0 → count ≡ 0 → ArePlain text len count
 no_lines text len count none zero-is = record { lines = []; front = ap (λ n. take n text) none; plain = refl; number = sym zero-is }

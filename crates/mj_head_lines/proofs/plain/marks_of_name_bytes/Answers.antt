@@ -1,8 +1,8 @@
 use Rattle.std.proofs.Common.{ℕ, not, eqb, leb, cond, bit_and, refl}
 use Rattle.std.proofs.lemmas.Simd.{zip2_splat}
-use Rattle.mj_head.specs.Head.{is_name_byte}
-use Rattle.mj_head.proofs.PlainBits.{marked_by_byte, joined, from_splat}
-use Rattle.mj_head.proofs.plain.marks_of_name_bytes.Goals as goal
+use Rattle.mj_head_lines.specs.Lines.{is_name_byte}
+use Rattle.mj_head_lines.proofs.Bits.{marked_by_byte, joined, from_splat}
+use Rattle.mj_head_lines.proofs.plain.marks_of_name_bytes.Goals as goal
 
 pub returns : goal.returns
 returns c =

@@ -5,8 +5,8 @@ use Rattle.std.proofs.lemmas.Bool.{and_from, and_parts, or_left, or_right, or_ca
 use Rattle.std.proofs.lemmas.List.{take-append-drop, drop_more, get_or-drop, get_or-take, drop-drop, length-take-le, length-drop}
 use Rattle.std.proofs.Math.Seq.{take-add, take-append-add}
 use Rattle.mj_terms.specs.Text.{is_blank}
-use Rattle.mj_head.specs.Head.{before_colon, is_name_byte}
-use Rattle.mj_head.specs.Plain.{is_plain, IsLineAt, IsPlainAt}
+use Rattle.mj_head_lines.specs.Lines.{before_colon, is_name_byte}
+use Rattle.mj_head_lines.specs.Plain.{is_plain, IsLineAt, IsPlainAt}
 
 -- ---- the form of a line, by its bytes
 

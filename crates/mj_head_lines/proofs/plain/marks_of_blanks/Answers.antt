@@ -1,8 +1,8 @@
 use Rattle.std.proofs.Common.{ℕ, refl}
 use Rattle.std.proofs.lemmas.Simd.{zip2_splat}
 use Rattle.mj_terms.specs.Text.{is_blank}
-use Rattle.mj_head.proofs.PlainBits.{marked_by_byte, joined}
-use Rattle.mj_head.proofs.plain.marks_of_blanks.Goals as goal
+use Rattle.mj_head_lines.proofs.Bits.{marked_by_byte, joined}
+use Rattle.mj_head_lines.proofs.plain.marks_of_blanks.Goals as goal
 
 pub returns : goal.returns
 returns c =

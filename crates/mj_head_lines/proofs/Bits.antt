@@ -9,7 +9,7 @@ use lib.Bits.{bit_and, bit_or}
 use lib.Lanes.{zip2, mask_l, top, Each1}
 use lib.Pow.{field, mod-mod-pow, shr-shr, shl-shr}
 use mir.Val.{bool_byte}
-use Rattle.mj_head.specs.Plain.{has_bit, has_bit_before, begins_line, any_to, Marks}
+use Rattle.mj_head_lines.specs.Plain.{has_bit, has_bit_before, begins_line, any_to, Marks}
 
 -- ---- one bit
 
