@@ -17,6 +17,7 @@ pub use head::{Head, write_head};
 pub use line::first_line;
 pub use read::{is_field_name, is_field_value, read_head, trim_end_blanks};
 pub use unfold::trim_blanks;
+pub use walk::Fields;
 
 #[cfg(test)]
 mod tests;

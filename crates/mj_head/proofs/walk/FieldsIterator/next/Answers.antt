@@ -1,11 +1,10 @@
-use Rattle.std.proofs.Common.{◌≡◌, ◌+◌, ◌-◌, ◌≤◌, List, ℕ, [], ◌∷◌, length, take, drop, arith, rules, ap, sym, ◌∙◌}
+use Rattle.std.proofs.Common.{◌≡◌, ◌+◌, ◌-◌, ◌≤◌, [], length, arith, rules, ap, sym, ◌∙◌}
 use Rattle.std.proofs.lemmas.List.{take_rest}
-use Rattle.mj_head.specs.Head.{RawField, fields_in}
-use Rattle.mj_head.proofs.Walking.{no_field, first_front}
-use Rattle.mj_head.proofs.walk.Walk.next.Goals as goal
+use Rattle.mj_head.proofs.Walking.{no_field, first_front, next_field}
+use Rattle.mj_head.proofs.walk.FieldsIterator.next.Goals as goal
 
-pub returns-in_err-name : goal.returns-in_err-name
-returns-in_err-name c =
+pub returns-in_err-name-clause-steps : goal.returns-in_err-name-clause-steps
+returns-in_err-name-clause-steps c =
     let none : c.args.self.now ≡ [] = sym c.self.view_is ∙ no_field c.self.inside.text.now c.self.invariant c.in_err-name.ensures in
     rw c.from_residual.ensures (none, none)
 
@@ -42,17 +41,14 @@ invariant_of-self c =
     let front = first_front c.self.inside.text.now c.in_ok-name.name c.self.invariant c.in_ok-name.ensures in
     rw (take_rest c.self.inside.text.now c.field_len-len.result, c.field_len-len.ensures) front.rest
 
-pub returns : goal.returns
-returns c =
+pub returns-clause-steps : goal.returns-clause-steps
+returns-clause-steps c =
     let text = c.self.inside.text.now in
-    let name = c.in_ok-name.name in
-    let len = c.field_len-len.result in
-    let front = first_front text name c.self.invariant c.in_ok-name.ensures in
-    let name-is : take name text ≡ front.field.0 = front.name_is in
-    let body-is : take (len - 2 - (name + 1)) (drop (name + 1) text) ≡ front.field.1 = ap (λ n. take n (drop (name + 1) text)) (omega (arith, front.len)) ∙ front.body_is in
-    let rest-is : fields_in (take (length text - len) (drop len text)) ≡ front.more = rw (take_rest text len, c.field_len-len.ensures) front.more_is in
-    sym c.self.view_is
-    ∙ front.fields
-    ∙ ap (λ (t : List ℕ). (t, front.field.1) ∷ front.more) (sym name-is)
-    ∙ ap (λ (t : List ℕ). (take name text, t) ∷ front.more) (sym body-is)
-    ∙ ap (λ (fs : List RawField). (take name text, take (len - 2 - (name + 1)) (drop (name + 1) text)) ∷ fs) (sym rest-is)
+    next_field _ text c.in_ok-name.name c.field_len-len.result c.self.view_is (first_front text c.in_ok-name.name c.self.invariant c.in_ok-name.ensures) c.field_len-len.ensures
+
+-- each field leaves one less
+pub returns-clause-goes : goal.returns-clause-goes
+returns-clause-goes c =
+    let text = c.self.inside.text.now in
+    let shorter = ap length (next_field _ text c.in_ok-name.name c.field_len-len.result c.self.view_is (first_front text c.in_ok-name.name c.self.invariant c.in_ok-name.ensures) c.field_len-len.ensures) in
+    search rules
