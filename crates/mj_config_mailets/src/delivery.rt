@@ -3,7 +3,7 @@ ghost use Rattle.std.specs.Prelude.{◌≡◌, ◌≤◌, codes, length};
 ghost use Rattle.std.specs.Option.{option_copied, ForSome};
 ghost use Rattle.toml.specs.Data.{get_member};
 ghost use Rattle.toml.specs.View.{view, table_view};
-ghost use Rattle.mj_time.specs.Schedule.{schedule_of};
+ghost use Rattle.mj_delays.specs.Schedule.{schedule_of};
 ghost use Rattle.mj_config_walk.specs.Values.{Gives, GivesBy, domain_value, maybe, number, optional, text};
 ghost use Rattle.mj_config_walk.specs.Mailets.{target_value, new_outgoing, outgoing_param, in_schedule, schedule, schedule_param};
 
@@ -11,8 +11,8 @@ use crate::params::{param_or, target_value};
 use mj_address::Domain;
 use mj_config_values::{Names, TextForm, domain_value, number, text, value_at};
 use mj_config_walk::{PlanKind, Refusal};
+use mj_delays::{Schedule, ScheduleFault};
 use mj_fields::Bytes;
-use mj_time::{Schedule, ScheduleFault};
 use std::alloc::Global;
 use toml::{Table, Value};
 

@@ -7,8 +7,9 @@ ghost use Rattle.mj_config_walk.specs.Values.{Gives, GivesBy, required, text, wh
 
 use mj_address::{Address, AddressFault, Domain, judge_local};
 use mj_config_walk::{PlanKind, Refusal};
+use mj_delays::numeral;
 use mj_fields::Bytes;
-use mj_time::{MomentFault, numeral, read_moment};
+use mj_time::{MomentFault, read_moment};
 use std::alloc::Global;
 use toml::{Table, Value};
 

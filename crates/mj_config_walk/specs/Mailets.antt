@@ -5,8 +5,8 @@ use Rattle.std.specs.Str.{bytes_eq}
 use Rattle.toml.specs.Data.{Data, table, Members, no_members, member, get_member}
 use Rattle.mj_terms.specs.Text.{trimmed}
 use Rattle.mj_head.specs.Head.{is_field_name}
-use Rattle.mj_time.specs.declared.schedules.ScheduleFault.{ScheduleFault}
-use Rattle.mj_time.specs.Schedule.{schedule_of}
+use Rattle.mj_delays.specs.declared.schedules.ScheduleFault.{ScheduleFault}
+use Rattle.mj_delays.specs.Schedule.{schedule_of}
 use Rattle.mj_plan.specs.declared.mailet.MailetKind.{MailetKind}
 use Rattle.mj_plan.specs.declared.mailet.MailetKind.TheVariants.{ToProcessor, SetMailAttribute, RemoveMailAttribute, SetMimeHeader, RemoveMimeHeader, MailAttributesToMimeHeaders, AddSubjectPrefix, Forward, Bounce, NotifyPostmaster, ToRepository, RemoteDelivery, Fail}
 use Rattle.mj_plan.specs.declared.mailet.Named.{Named}

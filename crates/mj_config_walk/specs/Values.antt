@@ -7,7 +7,7 @@ use Rattle.toml.specs.Data.{Data, string, integer, boolean, array, table, Items,
 use Rattle.mj_address.specs.declared.fault.AddressFault.{AddressFault}
 use Rattle.mj_address.specs.Reading.{address_of, domain_of, local_of}
 use Rattle.mj_time.specs.declared.moments.MomentFault.{MomentFault}
-use Rattle.mj_time.specs.Digits.{numeral_of}
+use Rattle.mj_delays.specs.Digits.{numeral_of}
 use Rattle.mj_time.specs.Moment.{moment_of}
 use Rattle.mj_config_walk.specs.declared.fault.PlanKind.{PlanKind}
 use Rattle.mj_config_walk.specs.declared.fault.PlanKind.TheVariants.{Missing, WrongType, BadAddress, BadMoment, BadArgument, UnknownProcessor}

@@ -6,9 +6,6 @@ pub mod Whole
 pub mod Changes
 pub mod Law
 pub mod PlainRead
-pub mod PlainBits
-pub mod PlainLines
-pub mod PlainCount
 pub mod Walking
 pub mod Removal
 pub mod Replacing

@@ -6,7 +6,7 @@ use Rattle.std.proofs.lemmas.List.{length-append, length-take, take-append-drop}
 use Rattle.std.proofs.lemmas.Grind.{flat_map-append}
 use Rattle.mj_head.specs.declared.cursor.Cursor.{Cursor}
 use Rattle.mj_head.specs.Head.{lines, content, head_lines, body_place, before_colon, after_colon, is_continuation, is_field_name, added_by, form_fault, first_fault}
-use Rattle.mj_head.specs.Plain.{is_plain, with_ends, ArePlain}
+use Rattle.mj_head_lines.specs.Plain.{is_plain, with_ends, ArePlain}
 use Rattle.mj_head.specs.Reading.{head_at, line_written, ReadsLines}
 use Rattle.mj_head.proofs.Lines.{Lacks, lines_split, content_cr}
 use Rattle.mj_head.proofs.Names.{around_colon}

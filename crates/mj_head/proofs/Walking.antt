@@ -1,8 +1,8 @@
 -- The first field of a written form, by its text: its name ends at the first colon, and it ends at the first LF that no blank follows.
-use Rattle.std.proofs.Common.{◌≡◌, ℕ, ◌+◌, ◌≤◌, ◌⊎◌, Bool, true, false, not, ◌&&◌, cond, eqb, inl, inr, List, [], ◌∷◌, ◌++◌, length, take, drop, Some, None, refl, sym, ap, ◌∙◌, arith}
+use Rattle.std.proofs.Common.{◌≡◌, ℕ, ◌+◌, ◌-◌, ◌≤◌, ◌⊎◌, Bool, true, false, not, ◌&&◌, cond, eqb, inl, inr, List, [], ◌∷◌, ◌++◌, length, take, drop, Some, None, refl, sym, ap, ◌∙◌, arith}
 use Rattle.std.specs.List.{list_all, list_any}
 use Rattle.std.proofs.lemmas.Bool.{cond-true, cond-false, cases_Bool, and_parts, and_left, and_right, both_ways}
-use Rattle.std.proofs.lemmas.List.{append-nil, length-take, take_at, drop_at}
+use Rattle.std.proofs.lemmas.List.{append-nil, length-take, take_at, take_rest, drop_at}
 use Rattle.bstr.specs.Find.{IsFirstByte, is_byte}
 use Rattle.mj_head.specs.Head.{RawField, before_colon, after_colon, begins_blank, is_name_byte, is_field_name, is_folded, is_raw_body, is_field, fields_in, written, IsWritten}
 use Rattle.mj_head.specs.Reading.{field_len}
@@ -129,3 +129,14 @@ first_front text name w h =
       | inl none ↦ absurd (omega (arith, ap length (sym w.same ∙ ap written none), h.0.high))
       | inr some ↦ front_at text name some.0 some.1 some.2 w h
     ]
+
+-- the first field as its parts are cut out, and the fields of what stands behind it
+pub next_field : (fields : List RawField) (text : List ℕ) (name len : ℕ) → fields_in text ≡ fields → IsFront text name → len ≡ field_len text → fields ≡ (take name text, take (len - 2 - (name + 1)) (drop (name + 1) text)) ∷ fields_in (take (length text - len) (drop len text))
+next_field fields text name len view front field-len =
+    let body-is : take (len - 2 - (name + 1)) (drop (name + 1) text) ≡ front.field.1 = ap (λ n. take n (drop (name + 1) text)) (omega (arith, front.len)) ∙ front.body_is in
+    let rest-is : fields_in (take (length text - len) (drop len text)) ≡ front.more = rw (take_rest text len, field-len) front.more_is in
+    sym view
+    ∙ front.fields
+    ∙ ap (λ (t : List ℕ). (t, front.field.1) ∷ front.more) (sym front.name_is)
+    ∙ ap (λ (t : List ℕ). (take name text, t) ∷ front.more) (sym body-is)
+    ∙ ap (λ (fs : List RawField). (take name text, take (len - 2 - (name + 1)) (drop (name + 1) text)) ∷ fs) (sym rest-is)

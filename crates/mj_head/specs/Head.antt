@@ -2,6 +2,8 @@
 use Rattle.std.specs.Prelude.{◌≡◌, ℕ, ◌+◌, nat_lt, nat_le, ◌==◌, Bool, true, false, not, ◌&&◌, if◌then◌else◌, List, [], ◌∷◌, ◌++◌, length, Option, Some, None, Result, Ok, Err}
 use Rattle.std.specs.List.{list_all, list_any}
 use Rattle.mj_terms.specs.Text.{is_blank, trim_back}
+-- names of fields, and lines that continue a field
+pub use Rattle.mj_head_lines.specs.Lines.{before_colon, is_name_byte, is_field_name, is_continuation}
 use Rattle.mj_head.specs.declared.fault.HeadFault.{HeadFault}
 use Rattle.mj_head.specs.declared.fault.HeadFault.TheVariants.{ContinuationFirst, NoColon, BadName, TooLong, Memory}
 
@@ -41,11 +43,7 @@ body_place (line ∷ rest) = if length (content line) == 0 then length line else
 
 -- ---- Fields (2.2)
 
--- what stands before the first colon, and what stands behind it
-abbrev pub before_colon : List ℕ → List ℕ
-before_colon [] = []
-before_colon (b ∷ line) = if b == 58 then [] else b ∷ before_colon line
-
+-- what stands behind the first colon
 abbrev pub after_colon : List ℕ → List ℕ
 after_colon [] = []
 after_colon (b ∷ line) = if b == 58 then line else after_colon line
@@ -53,18 +51,6 @@ after_colon (b ∷ line) = if b == 58 then line else after_colon line
 -- the name is what stands before the first colon, less the blanks right before the colon
 abbrev pub name_of : List ℕ → List ℕ
 name_of line = trim_back (before_colon line)
-
--- a name is one or more bytes 33 to 126 other than the colon
-abbrev pub is_name_byte : ℕ → Bool
-is_name_byte b = nat_le 33 b && nat_le b 126 && not (b == 58)
-
-abbrev pub is_field_name : List ℕ → Bool
-is_field_name name = not (length name == 0) && list_all is_name_byte name
-
--- a line that begins with a space or a tab continues the field before it (2.2.3)
-abbrev pub is_continuation : List ℕ → Bool
-is_continuation [] = false
-is_continuation (b ∷ line) = is_blank b
 
 -- what the lines that follow a field's first line directly, and continue it, add to its raw body
 abbrev pub continued : List (List ℕ) → List ℕ

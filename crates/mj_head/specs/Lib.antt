@@ -1,6 +1,5 @@
 pub mod Head
 pub mod Fields
-pub mod Plain
 pub mod Reading
 -- blanks and names, on which these definitions stand
 pub use Rattle.mj_terms.specs.Text

@@ -7,14 +7,14 @@ ghost use Rattle.mj_head.specs.Fields.{is_named};
 ghost use Rattle.mj_head.specs.Reading.{NoneIsNamed, IsFirstNamed, IsFirstField};
 
 use crate::field::Field;
-use crate::walk::Walk;
+use crate::walk::Fields;
 use std::alloc::AllocError;
 
 /// The first field of this name.
-pub(crate) fn first_named<'a>(mut fields: Walk<'a>, name: &[u8]) -> Option<Field<'a>>
+pub(crate) fn first_named<'a>(fields: Fields<'a>, name: &[u8]) -> Option<Field<'a>>
     ensures { result ≡ find (is_named name.now) fields.entry }
 {
-    while let Some(field) = fields.next() {
+    for field in fields {
         if field.is_named(name) {
             return Some(field);
         }
@@ -23,7 +23,7 @@ pub(crate) fn first_named<'a>(mut fields: Walk<'a>, name: &[u8]) -> Option<Field
 }
 
 /// The place of the first field of this name.
-pub(crate) fn place_named(mut fields: Walk<'_>, name: &[u8]) -> Option<usize>
+pub(crate) fn place_named(mut fields: Fields<'_>, name: &[u8]) -> Option<usize>
     requires { length fields ≤ 65536 }
     ensures { MatchOption result (NoneIsNamed name.now fields.entry)
         (λ place. IsFirstNamed name.now fields.entry place) }
@@ -39,21 +39,15 @@ pub(crate) fn place_named(mut fields: Walk<'_>, name: &[u8]) -> Option<usize>
 }
 
 /// How many fields have this name.
-pub(crate) fn count_named(mut fields: Walk<'_>, name: &[u8]) -> usize
+pub(crate) fn count_named(fields: Fields<'_>, name: &[u8]) -> usize
     requires { length fields ≤ 65536 }
     ensures { result ≡ count_by (is_named name.now) fields.entry }
 {
-    let mut count = 0;
-    while let Some(field) = fields.next() {
-        if field.is_named(name) {
-            count += 1;
-        }
-    }
-    count
+    fields.filter(|field| field.is_named(name)).count()
 }
 
 /// The fields from this place on.
-pub(crate) fn fields_from(mut fields: Walk<'_>, place: usize) -> Walk<'_>
+pub(crate) fn fields_from(mut fields: Fields<'_>, place: usize) -> Fields<'_>
     ensures { result ≡ drop place fields.entry }
 {
     for _ in 0..place {
@@ -62,18 +56,6 @@ pub(crate) fn fields_from(mut fields: Walk<'_>, place: usize) -> Walk<'_>
         };
     }
     fields
-}
-
-/// How many fields there are.
-pub(crate) fn count_fields(mut fields: Walk<'_>) -> usize
-    requires { length fields ≤ 65536 }
-    ensures { result ≡ length fields.entry }
-{
-    let mut count = 0;
-    while let Some(_field) = fields.next() {
-        count += 1;
-    }
-    count
 }
 
 /// Takes the fields of this name out of their written form; those behind move up.
@@ -102,7 +84,7 @@ fn first_field(text: &[u8], name: &[u8]) -> (bool, usize)
     requires some { 0 < length text.now }
     ensures { IsFirstField name.now text.now result.0 result.1 }
 {
-    let mut fields = Walk::new(text);
+    let mut fields = Fields::new(text);
     let named = match fields.next() {
         Some(field) => field.is_named(name),
         None => false,

@@ -7,12 +7,10 @@ ghost use Rattle.mj_head.specs.Fields.{is_named, unfolded, is_field_value, repla
 
 use crate::cursor::WRITTEN_LIMIT;
 use crate::field::Field;
-use crate::fields::{
-    count_fields, count_named, fields_from, first_named, place_named, put_field, remove_named,
-};
+use crate::fields::{count_named, fields_from, first_named, place_named, put_field, remove_named};
 use crate::read::is_field;
 use crate::unfold::unfold;
-use crate::walk::Walk;
+use crate::walk::Fields;
 use std::alloc::{AllocError, Global};
 use std::marker::Model;
 
@@ -49,7 +47,7 @@ impl Head {
     pub fn len(&self) -> usize
         ensures { result ≡ length self.now }
     {
-        count_fields(self.walk())
+        self.fields().count()
     }
 
     /// Whether there is no field.
@@ -60,20 +58,20 @@ impl Head {
     }
 
     /// The field at this place, from 0; `None` where there are no more than `place` fields. It goes
-    /// over the fields before it.
+    /// over the fields before it: `fields` is for all of them.
     pub fn get(&self, place: usize) -> Option<Field<'_>>
         ensures { result ≡ slice_get self.now place }
     {
-        let mut fields = fields_from(self.walk(), place);
+        let mut fields = fields_from(self.fields(), place);
         fields.next()
     }
 
-    /// Goes over the fields.
-    fn walk(&self) -> Walk<'_>
-        ensures fields { result ≡ self.now }
+    /// The fields, one after another, of which there are at most 65,536.
+    pub fn fields(&self) -> Fields<'_>
+        ensures all { result ≡ self.now }
         ensures few { length self.now ≤ 65536 }
     {
-        Walk::new(&self.text)
+        Fields::new(&self.text)
     }
 
     /// The number of bytes of the written form, at most 65,536.
@@ -89,7 +87,7 @@ impl Head {
     pub fn count(&self, name: &[u8]) -> usize
         ensures { result ≡ count_by (is_named name.now) self.now }
     {
-        count_named(self.walk(), name)
+        count_named(self.fields(), name)
     }
 
     /// Writes the head at the end: name, colon, raw body and CRLF of each field. After an error `out`
@@ -152,7 +150,7 @@ impl Head {
         ensures refused { result ≡ Result.Ok false → self.new ≡ self.old }
         ensures err { OnErr result (self.new ≡ self.old) }
     {
-        match place_named(self.walk(), name) {
+        match place_named(self.fields(), name) {
             Some(place) => self.replace_at(place, value),
             None => self.append(name, value),
         }
@@ -185,7 +183,7 @@ impl Head {
         requires { place < length self.now }
         ensures { Stands self.now place result.0 result.1 }
     {
-        let mut fields = fields_from(self.walk(), place);
+        let mut fields = fields_from(self.fields(), place);
         let Some(field) = fields.next() else {
             return (0, 0);
         };
@@ -231,7 +229,7 @@ impl Head {
         ensures { IfOk result (λ value.
             option_map (λ text. text.items) value ≡ unfolded name.now self.now) }
     {
-        match first_named(self.walk(), name) {
+        match first_named(self.fields(), name) {
             Some(field) => Ok(Some(unfold(alloc, field.body())?)),
             None => Ok(None),
         }

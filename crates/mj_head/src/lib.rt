@@ -7,7 +7,6 @@ mod field;
 mod fields;
 mod head;
 mod line;
-mod plain;
 mod read;
 mod unfold;
 mod walk;
@@ -18,6 +17,7 @@ pub use head::{Head, write_head};
 pub use line::first_line;
 pub use read::{is_field_name, is_field_value, read_head, trim_end_blanks};
 pub use unfold::trim_blanks;
+pub use walk::Fields;
 
 #[cfg(test)]
 mod tests;

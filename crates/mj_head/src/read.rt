@@ -4,15 +4,15 @@ ghost use Rattle.std.specs.List.{list_all, list_any};
 ghost use Rattle.mj_terms.specs.Text.{trim_back};
 ghost use Rattle.mj_head.specs.Head.{Gives, lines, body_place, head_lines, form_fault, is_continuation, is_field, is_field_name, is_name_byte, is_raw_body, begins_blank, before_colon, after_colon, head_of};
 ghost use Rattle.mj_head.specs.Fields.{is_field_value};
-ghost use Rattle.mj_head.specs.Plain.{ArePlain};
+ghost use Rattle.mj_head_lines.specs.Plain.{ArePlain};
 ghost use Rattle.mj_head.specs.Reading.{IsFault, BeginsField, ReadsLines, fault_from, empty_line_len};
 
 use crate::cursor::{Cursor, WRITTEN_LIMIT};
 use crate::fault::HeadFault;
 use crate::head::Head;
 use crate::line::first_line;
-use crate::plain::plain_lines;
 use bstr::ByteSlice;
+use mj_head_lines::plain_lines;
 use std::alloc::{AllocError, Global};
 
 /// Whether the bytes have the form of a field's name: one or more bytes 33 to 126 other than the

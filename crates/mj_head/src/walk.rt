@@ -1,5 +1,6 @@
 //! Going over the fields of a head.
-ghost use Rattle.std.specs.Prelude.{◌≡◌, ◌∷◌, [], length, MatchOption};
+ghost use Rattle.std.specs.Prelude.{◌≡◌, length};
+ghost use Rattle.std.specs.Iterator.{YieldsFirst, item_count};
 ghost use Rattle.mj_head.specs.Head.{written, fields_in, IsWritten};
 ghost use Rattle.mj_head.specs.Reading.{field_len};
 
@@ -8,32 +9,34 @@ use crate::read::begins_with_blank;
 use bstr::ByteSlice;
 use std::marker::Model;
 
-/// The fields of a head from one of them on, in their written form. Contracts see the list of these
-/// fields.
+/// The fields of a head from one of them on, one after another; each costs what its own written form
+/// has. Contracts see the list of the fields that are left, and each call of `next` gives the first of
+/// them.
 #[derive(Debug, Drop)]
-pub(crate) struct Walk<'a> {
+pub struct Fields<'a> {
+    /// The written form of these fields.
     text: &'a [u8],
 }
 
-impl<'a> Model for Walk<'a> {
+impl<'a> Model for Fields<'a> {
     ghost use Rattle.std.specs.Prelude.{ℕ, List};
 
     ghost Value = { List (List ℕ × List ℕ) };
 
     ghost use Rattle.mj_head.specs.Head.{fields_in, IsWritten};
 
-    ghost view = { λ walk. fields_in walk.text.now };
+    ghost view = { λ fields. fields_in fields.text.now };
 
-    ghost invariant = { λ walk. IsWritten walk.text.now };
+    ghost invariant = { λ fields. IsWritten fields.text.now };
 }
 
-impl<'a> Walk<'a> {
+impl<'a> Fields<'a> {
     /// All fields of this written form.
-    pub(crate) fn new(text: &'a [u8]) -> Walk<'a>
+    pub(crate) fn new(text: &'a [u8]) -> Fields<'a>
         requires { IsWritten text.now }
         ensures { result ≡ fields_in text.now }
     {
-        Walk { text }
+        Fields { text }
     }
 
     /// How many bytes the written form of these fields has.
@@ -42,12 +45,16 @@ impl<'a> Walk<'a> {
     {
         self.text.len()
     }
+}
 
-    /// The first of these fields, which is passed with it.
-    pub(crate) fn next(&mut self) -> Option<Field<'a>>
-        ensures { MatchOption result ((self.old ≡ []) × (self.new ≡ []))
-            (λ field. self.old ≡ field ∷ self.new) }
-    {
+impl<'a> Iterator for Fields<'a> {
+    type Item = Field<'a>;
+
+    ghost next_gives = { YieldsFirst (λ fields. fields) };
+
+    ghost remaining = { item_count (λ fields. fields) };
+
+    fn next(&mut self) -> Option<Field<'a>> {
         let text = self.text;
         let name = text.find_byte(b':')?;
         let len = field_len(text);

@@ -3,8 +3,8 @@ ghost use Rattle.std.specs.Option.{option_copied};
 ghost use Rattle.mj_plan.specs.Lookups.{delivery_of};
 
 use mj_address::{Address, Domain};
+use mj_delays::Schedule;
 use mj_fields::{Bytes, Items};
-use mj_time::Schedule;
 
 /// A text with a name: a mail attribute and its value, or a mail attribute and the field that takes its value.
 #[derive(Debug, Drop)]

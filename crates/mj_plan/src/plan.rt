@@ -4,8 +4,8 @@ ghost use Rattle.mj_plan.specs.Lookups.{processor_named, schedule_in, schedule_n
 
 use crate::{MailetKind, MatchExpr};
 use mj_address::{Address, Domain};
+use mj_delays::Schedule;
 use mj_fields::{Bytes, Items};
-use mj_time::Schedule;
 
 /// What a configuration says, read and judged. Moments are milliseconds since 1970-01-01T00:00:00Z.
 #[derive(Debug, Drop)]

@@ -2,8 +2,3 @@ pub mod Bounds
 pub mod Civil
 pub mod DateLines
 pub mod Days
-pub mod Drafts
-pub mod Numerals
-pub mod Parts
-pub mod Short
-pub mod Trims

@@ -1,8 +1,8 @@
 -- Moments in the form `YYYY-MM-DDTHH:MM:SSZ`.
 use Rattle.std.specs.Prelude.{ℕ, ◌+◌, ◌*◌, ◌==◌, ◌&&◌, Bool, nat_lt, nat_le, if◌then◌else◌, pos, unsigned_abs, List, length, slice_index, slice_range, Option, Some, None, Result, Ok, Err}
 use Rattle.jiff_core.specs.Calendar.{days_in_month, days_from_civil}
-use Rattle.mj_time.specs.Digits.{numeral_of}
-use Rattle.mj_time.specs.Steps.{◌>>=◌}
+use Rattle.mj_delays.specs.Digits.{numeral_of}
+use Rattle.mj_delays.specs.Steps.{◌>>=◌}
 use Rattle.mj_time.specs.declared.moments.Fields.{Fields}
 use Rattle.mj_time.specs.declared.moments.MomentFault.{MomentFault}
 use Rattle.mj_time.specs.declared.moments.MomentFault.TheVariants.{Bad, OutOfRange}

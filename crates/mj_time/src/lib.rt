@@ -1,16 +1,12 @@
-//! Delay lists of retries, moments that are read, and dates as mail writes them.
+//! Moments that are read, and dates as mail writes them. The lists of delays stand below, without the
+//! calendar, and are handed on from here.
 #![tactic(auto)]
 
 mod dates;
-mod delays;
-mod digits;
 mod moments;
-mod schedules;
 #[cfg(test)]
 mod tests;
-mod texts;
 
 pub use dates::date_text;
-pub use digits::numeral;
+pub use mj_delays::{Schedule, ScheduleFault, numeral};
 pub use moments::{MomentFault, read_moment};
-pub use schedules::{Schedule, ScheduleFault};

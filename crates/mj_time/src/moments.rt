@@ -4,8 +4,8 @@ ghost use Rattle.jiff_core.specs.Date.{epoch_day, IsYmd};
 ghost use Rattle.mj_time.specs.Moment.{fields_of, field, has_separators, is_date, is_time, is_in_range, milliseconds_at, moment_of};
 ghost use Rattle.mj_time.specs.Fields.{HasFewDigits};
 
-use crate::digits::numeral;
 use jiff::civil::Date;
+use mj_delays::numeral;
 use thiserror::Error;
 
 /// Why a text gives no moment.

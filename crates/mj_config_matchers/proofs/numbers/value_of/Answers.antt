@@ -1,5 +1,5 @@
 use Rattle.std.proofs.Common.{arith}
-use Rattle.mj_time.proofs.Numerals.{digit_at, next_digit}
+use Rattle.mj_delays.proofs.Numerals.{digit_at, next_digit}
 use Rattle.mj_config_walk.proofs.Decimals.{power_of_ten}
 use Rattle.mj_config_matchers.proofs.numbers.value_of.Goals as goal
 

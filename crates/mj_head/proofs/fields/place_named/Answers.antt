@@ -9,8 +9,8 @@ pub loop-field-preserved : goal.loop-field-preserved
 loop-field-preserved c =
     let i = c.loop-field.invariant in
     let named : is_named c.args.name.now c.in-Some.field ≡ false = search rules in (
-      drop_next c.args.fields c.loop-field.fields c.next.new.self c.in-Some.field c.loop-field.place i.0 c.in-Some.ensures,
-      omega (arith, i.1, ap length c.in-Some.ensures),
-      rw (take_next c.args.fields c.loop-field.fields c.next.new.self c.in-Some.field c.loop-field.place i.0 c.in-Some.ensures)
+      drop_next c.args.fields c.loop-field.fields c.next.new.self c.in-Some.field c.loop-field.place i.0 c.in-Some.ensures.steps,
+      omega (arith, i.1, ap length c.in-Some.ensures.steps),
+      rw (take_next c.args.fields c.loop-field.fields c.next.new.self c.in-Some.field c.loop-field.place i.0 c.in-Some.ensures.steps)
           (list_all-append (λ field. not (is_named c.args.name.now field)) _ _ i.2 (and_from _ true (not_from_false _ named) refl)),
     )

@@ -1,0 +1,5 @@
+pub mod Drafts
+pub mod Numerals
+pub mod Parts
+pub mod Short
+pub mod Trims

@@ -1,5 +1,0 @@
-use Rattle.mj_head.proofs.Changes.{head_few}
-use Rattle.mj_head.proofs.head.Head.walk.Goals as goal
-
-pub returns-clause-few : goal.returns-clause-few
-returns-clause-few c = rw (← c.self.view_is) (head_few _ c.self.invariant.1)

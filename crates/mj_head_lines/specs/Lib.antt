@@ -1,0 +1,4 @@
+pub mod Lines
+pub mod Plain
+-- blanks, on which these definitions stand
+pub use Rattle.mj_terms.specs.Text
