@@ -86,6 +86,17 @@ impl Bytes {
         Ok(())
     }
 
+    /// Puts two strings of bytes at the end, the one behind the other. Without room for both the bytes stay.
+    pub fn extend_two(&mut self, first: &[u8], second: &[u8]) -> Result<(), Memory>
+        ensures ok { OnOk result (self.new ≡ self.old ++ (first.now ++ second.now)) }
+        ensures err { OnErr result (self.new ≡ self.old) }
+    {
+        self.bytes.reserve(first.len() + second.len())?;
+        self.bytes.extend_from_slice(first)?;
+        self.bytes.extend_from_slice(second)?;
+        Ok(())
+    }
+
     /// Puts bytes at the end. Without room for all of them the bytes stay.
     pub fn extend(&mut self, bytes: &[u8]) -> Result<(), Memory>
         ensures ok { OnOk result (self.new ≡ self.old ++ bytes.now) }

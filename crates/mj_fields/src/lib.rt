@@ -1,13 +1,14 @@
-//! Bytes and lists that contracts see as lists, and the want of memory.
+//! Bytes and lists that contracts see as lists, the fields of records, and the want of memory.
 #![tactic(auto)]
 
 mod bytes;
 mod items;
 mod memory;
+mod puts;
+mod takes;
 
 pub use bytes::Bytes;
 pub use items::Items;
 pub use memory::Memory;
-
-#[cfg(test)]
-mod tests;
+pub use puts::{put_bytes, put_u8, put_u16, put_u32, put_u64};
+pub use takes::{take_bytes, take_u8, take_u16, take_u32, take_u64};

@@ -19,6 +19,3 @@ pub use memory_files::{MemoryFile, MemoryFiles, SureFiles, are_files};
 pub use memory_sink::{MemorySink, SureSink};
 pub use out_sink::OutSink;
 pub use sink::{Failed, Sink};
-
-#[cfg(test)]
-mod tests;

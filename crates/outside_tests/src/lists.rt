@@ -1,7 +1,7 @@
 ghost use Rattle.std.specs.Prelude.{◌≡◌, IfOk};
 ghost use Rattle.std.specs.List.{flat_map};
 
-use crate::{Bytes, Items, Memory};
+use mj_fields::{Bytes, Items, Memory};
 use std::alloc::Global;
 use std::test::Fail;
 

@@ -1,8 +1,8 @@
-use crate::{
+use mj_fields::{Bytes, Items, Memory};
+use mj_io::{
     Failed, Files, FilesError, FolderFiles, MemoryFile, MemoryFiles, MemorySink, OutSink, Sink,
     SureFiles, SureSink, are_files,
 };
-use mj_fields::{Bytes, Items, Memory};
 use std::alloc::Global;
 use std::fs;
 use std::process::Abort;
