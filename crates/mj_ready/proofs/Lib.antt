@@ -1,0 +1,4 @@
+pub mod Depths
+pub mod Ordered
+pub mod Sifting
+pub mod Uses

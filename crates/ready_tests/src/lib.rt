@@ -1,0 +1,5 @@
+//! Tests of the due queue.
+#![tactic(auto)]
+
+#[cfg(test)]
+mod tests;
