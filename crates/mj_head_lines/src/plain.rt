@@ -104,8 +104,10 @@ fn plain_ends(text: &[u8]) -> u64
     bits_before(masks.lf, faults(masks))
 }
 
-/// How many bytes at the front are whole plain lines, and how many lines these are. At most the
-/// first 64 bytes are looked at, and none where there are fewer.
+/// How many bytes at the front are whole plain lines, and how many lines these are (RFC 5322, 2.2). A
+/// plain line ends with CRLF and has no other LF; it begins with a space or a tab, or it has a name
+/// right before its first colon. At most the first 64 bytes are looked at, and none where there are
+/// fewer; that no further plain line stands among them is left open.
 pub fn plain_lines(text: &[u8]) -> (usize, u32)
     ensures within { result.0 ≤ length text.now }
     ensures short { result.0 ≤ 64 }
