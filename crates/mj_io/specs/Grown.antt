@@ -1,6 +1,6 @@
--- What a sink tells after a piece was put at its end.
-use Rattle.std.specs.Prelude.{ℕ, List, ◌++◌, Option, option_map}
+-- What a sink or a wire tells after more was put at its end.
+use Rattle.std.specs.Prelude.{List, ◌++◌, Option, option_map}
 
--- the bytes with the piece at their end, where they are told
-abbrev pub grown : Option (List ℕ) → List ℕ → Option (List ℕ)
-grown told piece = option_map (λ bytes. bytes ++ piece) told
+-- the list with more at its end, where it is told
+abbrev pub grown : {T : Type 0} → Option (List T) → List T → Option (List T)
+grown told more = option_map (λ all. all ++ more) told

@@ -8,6 +8,7 @@ use mj_fields::{Bytes, Items, Memory};
 use std::alloc::Global;
 use std::fs::OpenFile;
 use std::io::{ErrorKind, Read};
+use std::marker::Model;
 use std::{fs, io, rt};
 
 /// The most names that a folder may have; more count as a fault.
@@ -17,23 +18,33 @@ const MOST_NAMES: usize = 1_000_000;
 const FIRST_ROOM: usize = 65_536;
 
 /// The files of the working folder. It tells nothing, and counts each call that the system refuses, each folder
-/// of more than a million names, and each name that isn't UTF-8.
+/// of more than a million names, and each name that isn't UTF-8. Contracts see it as that count.
 #[derive(Drop)]
 pub struct FolderFiles<E> {
     rt: E,
     faults: u64,
 }
 
+impl<E> Model for FolderFiles<E> {
+    ghost use Rattle.std.specs.Prelude.{ℕ};
+
+    ghost Value = { ℕ };
+
+    ghost view = { λ s. s.faults };
+}
+
 impl<E: rt::Files + AllocGlobal + Clone + Drop> FolderFiles<E> {
-    /// The files under the folder in which the program runs. Takes no memory.
-    pub fn make(rt: E) -> FolderFiles<E> {
+    /// The files under the folder in which the program runs, without a fault yet. Takes no memory.
+    pub fn make(rt: E) -> FolderFiles<E>
+        ensures { result ≡ 0 }
+    {
         FolderFiles { rt, faults: 0 }
     }
 
     /// Counts what isn't want of memory as a fault.
     fn judge(&mut self, error: io::Error) -> FilesError
-        ensures failed { result ≡ FilesError.Failed → Rose self.old.faults self.new.faults }
-        ensures later { self.old.faults ≤ self.new.faults }
+        ensures failed { result ≡ FilesError.Failed → Rose self.old self.new }
+        ensures later { self.old ≤ self.new }
     {
         if error.kind() == ErrorKind::OutOfMemory {
             return FilesError::Memory;
@@ -152,7 +163,7 @@ fn read_file<E: rt::Files>(
 impl<E: rt::Files + AllocGlobal + Clone + Drop> Files for FolderFiles<E> {
     ghost told = { λ _. None };
 
-    ghost faults = { λ s. s.faults };
+    ghost faults = { λ s. s };
 
     fn list(&mut self, alloc: Global, folder: &str) -> Result<Items<Bytes>, FilesError> {
         match file_names(alloc, &self.rt, folder) {

@@ -1,15 +1,16 @@
-ghost use Rattle.std.specs.Prelude.{◌≡◌, ◌&&◌, ◌≤◌, length, take, true, is_none, IfOk, option_map};
+ghost use Rattle.std.specs.Prelude.{◌≡◌, ◌&&◌, ◌≤◌, ◌↔◌, length, take, true, is_none, IfOk, IsErrOf, option_map};
 ghost use Rattle.std.specs.List.{list_all};
 ghost use Rattle.std.specs.Option.{option_copied};
 ghost use Rattle.std.specs.Ordering.{nat_cmp, is_le};
 ghost use Rattle.std.specs.Cmp.Lexicographic.{slice_cmp};
 ghost use Rattle.std.specs.Str.{is_utf8};
+ghost use Rattle.mj_terms.specs.Causes.{HasCause};
+ghost use Rattle.mj_fields.specs.Calls.{is_named};
 ghost use Rattle.mj_io.specs.Folder.{file_at, name_in, names_in, place_of};
-ghost use Rattle.mj_io.specs.Held.{told_files, are_files as are_sound};
+ghost use Rattle.mj_io.specs.Held.{called, told_files, are_files as are_sound};
 
-use crate::calls::Calls;
 use crate::{Files, FilesError};
-use mj_fields::{Bytes, Items, Memory};
+use mj_fields::{Bytes, Calls, Items, Memory};
 use std::alloc::Global;
 use std::marker::Model;
 
@@ -211,7 +212,15 @@ impl Files for MemoryFiles {
 
     ghost faults = { λ s. s.faults };
 
-    fn list(&mut self, alloc: Global, folder: &str) -> Result<Items<Bytes>, FilesError> {
+    fn list(&mut self, alloc: Global, folder: &str) -> Result<Items<Bytes>, FilesError>
+        ensures names { IfOk result (λ names. names ≡ names_in folder.now self.old.files) }
+        ensures utf8 { IfOk result (λ names. list_all is_utf8 names ≡ true) }
+        ensures same { self.new.files ≡ self.old.files }
+        ensures cause { HasCause FilesError.Failed self.old.faults self.new.faults result }
+        // It fails where it was told to, and nowhere else.
+        ensures fails { IsErrOf result FilesError.Failed ↔ (is_named self.old.failing self.old.calls ≡ true) }
+        ensures held { self.new ≡ called self.old }
+    {
         if self.calls.next_fails() {
             return Err(FilesError::Failed);
         }
@@ -219,12 +228,13 @@ impl Files for MemoryFiles {
         Ok(Items::from_vec(names))
     }
 
-    fn read(
-        &mut self,
-        alloc: Global,
-        path: &str,
-        limit: usize,
-    ) -> Result<Option<Bytes>, FilesError> {
+    fn read(&mut self, alloc: Global, path: &str, limit: usize) -> Result<Option<Bytes>, FilesError>
+        ensures bytes { IfOk result (λ bytes. bytes ≡ option_map (take limit) (file_at path.now self.old.files)) }
+        ensures same { self.new.files ≡ self.old.files }
+        ensures cause { HasCause FilesError.Failed self.old.faults self.new.faults result }
+        ensures fails { IsErrOf result FilesError.Failed ↔ (is_named self.old.failing self.old.calls ≡ true) }
+        ensures held { self.new ≡ called self.old }
+    {
         if self.calls.next_fails() {
             return Err(FilesError::Failed);
         }

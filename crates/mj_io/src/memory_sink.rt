@@ -1,8 +1,11 @@
-ghost use Rattle.std.specs.Prelude.{◌≡◌, [], None};
+ghost use Rattle.std.specs.Prelude.{◌≡◌, ℕ, [], None, take, true, IsErr, OnOk, OnErr};
+ghost use Rattle.mj_terms.specs.Causes.{HasCause};
+ghost use Rattle.mj_fields.specs.Calls.{is_named};
+ghost use Rattle.mj_io.specs.Grown.{grown};
+ghost use Rattle.mj_io.specs.Held.{took, took_nothing};
 
-use crate::calls::Calls;
 use crate::{Failed, Sink};
-use mj_fields::{Bytes, Items};
+use mj_fields::{Bytes, Calls, Items};
 use std::alloc::Global;
 use std::marker::Model;
 
@@ -62,7 +65,15 @@ impl Sink for MemorySink {
 
     ghost faults = { λ s. s.faults };
 
-    fn write(&mut self, piece: &[u8]) -> Result<(), Failed> {
+    fn write(&mut self, piece: &[u8]) -> Result<(), Failed>
+        ensures ok { OnOk result (Some self.new.bytes ≡ grown (Some self.old.bytes) piece.now) }
+        ensures err { OnErr result ((k : ℕ) × (Some self.new.bytes ≡ grown (Some self.old.bytes) (take k piece.now))) }
+        ensures cause { HasCause (record {}) self.old.faults self.new.faults result }
+        // It fails where it was told to, and else only where the piece finds no room.
+        ensures named { is_named self.old.failing self.old.calls ≡ true → IsErr result }
+        ensures held { OnOk result (self.new ≡ took self.old piece.now) }
+        ensures failed { OnErr result (self.new ≡ took_nothing self.old) }
+    {
         if self.calls.next_fails() {
             return Err(Failed);
         }

@@ -1,18 +1,30 @@
-ghost use Rattle.std.specs.Prelude.{None};
+ghost use Rattle.std.specs.Prelude.{◌≡◌, None};
 
 use crate::{Failed, Sink};
 use std::io::ErrorKind;
+use std::marker::Model;
 
-/// Standard output. It tells nothing, and counts each write that the system refuses.
+/// Standard output. It tells nothing, and counts each write that the system refuses. Contracts see it as that
+/// count.
 #[derive(Drop)]
 pub struct OutSink<E> {
     rt: E,
     faults: u64,
 }
 
+impl<E> Model for OutSink<E> {
+    ghost use Rattle.std.specs.Prelude.{ℕ};
+
+    ghost Value = { ℕ };
+
+    ghost view = { λ s. s.faults };
+}
+
 impl<E: Print + Drop> OutSink<E> {
-    /// Standard output of this runtime. Takes no memory.
-    pub fn make(rt: E) -> OutSink<E> {
+    /// Standard output of this runtime, without a fault yet. Takes no memory.
+    pub fn make(rt: E) -> OutSink<E>
+        ensures { result ≡ 0 }
+    {
         OutSink { rt, faults: 0 }
     }
 }
@@ -44,7 +56,7 @@ fn write_whole<E: Print>(rt: &E, piece: &[u8]) -> bool {
 impl<E: Print + Drop> Sink for OutSink<E> {
     ghost told = { λ _. None };
 
-    ghost faults = { λ s. s.faults };
+    ghost faults = { λ s. s };
 
     fn write(&mut self, piece: &[u8]) -> Result<(), Failed> {
         if write_whole(&self.rt, piece) {

@@ -1,8 +1,7 @@
-ghost use Rattle.std.specs.Prelude.{◌≡◌, ◌==◌, ◌≤◌, if◌then◌else◌};
-ghost use Rattle.std.specs.List.{list_any};
-ghost use Rattle.mj_io.specs.Held.{next};
+ghost use Rattle.std.specs.Prelude.{◌≡◌, ◌≤◌, if◌then◌else◌};
+ghost use Rattle.mj_fields.specs.Calls.{next, is_named};
 
-use mj_fields::Items;
+use crate::Items;
 
 /// Counts the calls on an object in memory, from 1, and its faults. The calls whose numbers are named fail.
 #[derive(Debug, Drop)]
@@ -13,6 +12,7 @@ pub struct Calls {
 }
 
 impl Calls {
+    /// No call yet, and the numbers of the calls that are to fail. Takes no memory.
     pub fn new(failing: Items<u64>) -> Calls
         ensures { result ≡ record { failing = failing; made = 0; faults = 0 } }
     {
@@ -27,7 +27,7 @@ impl Calls {
     pub fn next_fails(&mut self) -> bool
         ensures failing { self.new.failing ≡ self.old.failing }
         ensures made { self.new.made ≡ next self.old.made }
-        ensures fails { result ≡ list_any (λ n. n == next self.old.made) self.old.failing }
+        ensures fails { result ≡ is_named self.old.failing self.old.made }
         ensures faults { self.new.faults ≡ (if result then next self.old.faults else self.old.faults) }
         ensures later { self.old.faults ≤ self.new.faults }
     {
@@ -39,6 +39,7 @@ impl Calls {
         fails
     }
 
+    /// Counts a fault that has another cause.
     pub fn count_fault(&mut self)
         ensures counts { self.new ≡ record self.old { faults = next self.old.faults } }
         ensures later { self.old.faults ≤ self.new.faults }
