@@ -16,13 +16,16 @@ Shapes:
   plan        a configuration of 1 MB in many steps, and one in many rows of `[[rewrite]]`, with no mail: the time above
               that of an empty run, against what `toml` alone takes for the same bytes, and the peak memory above that
               of an empty run
+  queue       a due queue that is filled with 1,000,000 pairs, the latest first, and emptied: the time above that of ten
+              pairs, against that of 100,000, and the peak memory a pair
 
 A round runs every folder of a shape once, one after the other, so that what slows the machine for a while slows them
 alike. Each time is the wall clock's, the best of the rounds; each ratio is the median of the rounds' own. The files are
 in the page cache, and a run begins with nothing but `conf` and `mails` in its folder. Peak memory is the worst round's
 ru_maxrss; it can't be told below that of the shell that starts the program (about 1 MiB). MB are 1,000,000 bytes. An
 empty run has a folder without mails. `cat` is started by `xargs -0`, which takes several of them for more than some ten
-thousand files. `toml` alone is the program of crates/toml_yardstick, which reads the file and parses it.
+thousand files. `toml` alone is the program of crates/toml_yardstick, which reads the file and parses it; the queue's is that
+of crates/ready_bench.
 
 The status is 1 where a run doesn't end with status 0, doesn't report one line a mail, or refuses a mail. Linux only.
 By default some 500 MB are needed in the temporary directory (TMPDIR says where).
@@ -86,7 +89,8 @@ CHAIN = (processor("root", to_processor("second")) + processor("second", to_proc
 CRATES = Path(__file__).resolve().parents[1] / "crates"
 PROGRAM = CRATES / "james_cli/out/james_cli"
 YARDSTICK = CRATES / "toml_yardstick/out/toml_yardstick"
-SHAPES = ("small", "large", "rate", "heads", "recipients", "hops", "processors", "plan")
+QUEUE = CRATES / "ready_bench/out/ready_bench"
+SHAPES = ("small", "large", "rate", "heads", "recipients", "hops", "processors", "plan", "queue")
 
 MAX_FILE = 16_777_216
 LONG_HEAD = 65_000
@@ -96,7 +100,7 @@ SHORT_HEAD = b"Subject: hi\r\n"
 # The shell tells the number of a process that will become the program, and ends; this process then adopts that one,
 # lets it go on by closing its input, and waits for it. Were the program started from here directly, Linux would count
 # the memory of this process into the program's ru_maxrss.
-START_PROGRAM = 'exec 3<&0; { read go <&3; exec "$1" run 3<&-; } > "$2" & echo $!'
+START_PROGRAM = 'exec 3<&0; { read go <&3; exec "$1" "$2" 3<&-; } > "$3" & echo $!'
 PR_SET_CHILD_SUBREAPER = 36
 
 
@@ -171,6 +175,19 @@ def wait_for(process):
     return os.waitstatus_to_exitcode(status), usage
 
 
+def run_program(program, word, output, folder):
+    """Runs a program with one word in a folder, its output to a file; its exit status, and what it took."""
+    command = ["sh", "-c", START_PROGRAM, "sh", program, word, output]
+    pipe = subprocess.PIPE
+    with subprocess.Popen(command, cwd=folder, stdin=pipe, stdout=pipe) as shell:
+        process = int(shell.stdout.read())
+        shell.wait()
+        start = time.perf_counter()
+        shell.stdin.close()
+        status, usage = wait_for(process)
+        return status, Run(time.perf_counter() - start, usage.ru_maxrss)
+
+
 class Folder:
     """A folder to run a program in, which is `james` if no other is given: `conf`, `mails`, and what it makes of them."""
 
@@ -203,17 +220,9 @@ class Folder:
 
     def run_once(self):
         self.clear()
-        command = ["sh", "-c", START_PROGRAM, "sh", self.program, self.report]
-        pipe = subprocess.PIPE
-        with subprocess.Popen(command, cwd=self.path, stdin=pipe, stdout=pipe) as shell:
-            process = int(shell.stdout.read())
-            shell.wait()
-            start = time.perf_counter()
-            shell.stdin.close()
-            status, usage = wait_for(process)
-            seconds = time.perf_counter() - start
+        status, run = run_program(self.program, "run", self.report, self.path)
         self.check(status)
-        return Run(seconds, usage.ru_maxrss)
+        return run
 
     def cat_once(self):
         return Run(self.read_all(), 0)
@@ -280,6 +289,7 @@ class Bench:
     def __init__(self, given, root):
         self.james = given.james.resolve()
         self.yardstick = given.yardstick.resolve()
+        self.ready = given.queue.resolve()
         self.rounds = given.rounds
         self.keep = given.keep
         self.mails = given.mails
@@ -418,6 +428,24 @@ class Bench:
             folder.remove()
 
 
+    def queue(self):
+        """The due queue is filled, the latest pair first, and emptied, beside one of ten pairs."""
+        counts = (10, 100_000, 1_000_000)
+        rounds = self.measure(*[lambda count=count: self.queue_once(count) for count in counts])
+        title("queue: pairs added and taken in order", "time", "by 100,000", "bytes a pair")
+        small = best(rounds, 0)
+        for at, count in list(enumerate(counts))[1:]:
+            run = best(rounds, at)
+            row(f"{count:,} pairs", f"{run.seconds * 1000:.1f} ms", times(ratio(rounds, at, 1, above=(0, 0))),
+                f"{(run.peak - small.peak) * 1024 / count:.1f}")
+
+    def queue_once(self, count):
+        status, run = run_program(self.ready, str(count), self.root / "queue", self.root)
+        if status != 0:
+            raise Fault(f"the queue of {count} pairs: status {status}")
+        return run
+
+
 def arguments():
     parser = argparse.ArgumentParser(description=__doc__, formatter_class=argparse.RawDescriptionHelpFormatter)
     parser.add_argument("--shape", action="append", choices=SHAPES, help="a shape to measure; may be given again "
@@ -430,12 +458,15 @@ def arguments():
                         help="the built program (default: the repository's crates/james_cli/out/james_cli)")
     parser.add_argument("--yardstick", type=Path, default=YARDSTICK, metavar="PATH",
                         help="the built program that only parses TOML (default: that of crates/toml_yardstick)")
+    parser.add_argument("--queue", type=Path, default=QUEUE, metavar="PATH",
+                        help="the built program that fills and empties a due queue (default: that of crates/ready_bench)")
     parser.add_argument("--keep", action="store_true", help="keep the folders and say where they are")
     given = parser.parse_args()
     if given.mails < 1 or given.size < 0 or given.rounds < 1:
         parser.error("N and ROUNDS are at least 1, BYTES at least 0")
     given.shape = given.shape or SHAPES
-    for program in [given.james] + [given.yardstick] * ("plan" in given.shape):
+    programs = [given.james] + [given.yardstick] * ("plan" in given.shape) + [given.queue] * ("queue" in given.shape)
+    for program in programs:
         if not os.access(program, os.X_OK):
             parser.error(f"no program at {program}")
     return given

@@ -71,6 +71,29 @@ fn outcome(
     Ok((status, out.bytes().to_vec(alloc)?))
 }
 
+/// A mail of a head alone, one with bare LF in its head, one with a folded field, and a file that is no mail.
+const FOUR: [(&str, &str); 4] = [
+    (
+        "mails/a.mail",
+        "MAIL FROM:<cara@example.net>\r\nRCPT TO:<ann@example.org>\r\nDATA\r\nSubject: one",
+    ),
+    (
+        "mails/b.mail",
+        "MAIL FROM:<cara@example.net>\r\nRCPT TO:<ann@example.org>\r\nDATA\r\nSubject: one\n\nhello\r\n",
+    ),
+    (
+        "mails/c.mail",
+        "MAIL FROM:<cara@example.net>\r\nRCPT TO:<ann@example.org>\r\nDATA\r\nSubject: a\r\n\tb\r\n\r\n",
+    ),
+    (
+        "mails/d.mail",
+        "MAIL FROM:<cara@example.net>\r\nRCPT TO:<ann@example.org>\r\nDATA\r\n: x",
+    ),
+];
+
+const FOUR_LINES: &str =
+    "1#1 deposit file://var/mail/in ann@example.org 16\n2#1 deposit file://var/mail/in ann@example.org 23\n3#1 deposit file://var/mail/in ann@example.org 18\nrefused d.mail BadHead 1\n";
+
 #[test]
 fn reports_the_mails_of_a_folder(rt: HostRuntime) -> Result<(), Fail> {
     let alloc = rt.alloc();
@@ -85,6 +108,14 @@ fn reports_the_mails_of_a_folder(rt: HostRuntime) -> Result<(), Fail> {
         text.as_slice(),
         b"1#1 deposit file://var/mail/in ann@example.org 23\n2#1 deposit file://var/mail/in bob@example.org 20\n".as_slice()
     );
+
+    let mut files = plain(alloc)?;
+    for (path, text) in FOUR {
+        put(alloc, &mut files, path, text.as_bytes())?;
+    }
+    let (status, text) = outcome(alloc, &["run"], files, &[], &[])?;
+    assert_eq!(rt; status, 0);
+    assert_eq!(rt; text.as_slice(), FOUR_LINES.as_bytes());
 
     let (status, text) = outcome(alloc, &["run"], plain(alloc)?, &[], &[])?;
     assert_eq!(rt; status, 0);
@@ -408,6 +439,26 @@ fn tells_what_failed(rt: HostRuntime) -> Result<(), Fail> {
         assert_eq!(rt; status, 5, "{call}");
         assert_eq!(rt; text.as_slice(), b"fault read\n".as_slice(), "{call}");
     }
+    // A configuration is refused before the folder is listed, and a file with a long name isn't read.
+    let (status, text) = outcome(
+        alloc,
+        &["run"],
+        configured(alloc, "spool = 7\n")?,
+        &[2],
+        &[],
+    )?;
+    assert_eq!(rt; status, 3);
+    assert_eq!(rt; text.as_slice(), b"fault config WrongType 0 0\n".as_slice());
+    let mut files = plain(alloc)?;
+    put(
+        alloc,
+        &mut files,
+        long_path(alloc, 4092)?.as_str(),
+        ONE.as_bytes(),
+    )?;
+    let (status, text) = outcome(alloc, &["run"], files, &[3], &[])?;
+    assert_eq!(rt; status, 0);
+    assert!(rt; text.ends_with(b"aaa.mail LongName\n"));
     let (status, text) = outcome(alloc, &["run"], plain(alloc)?, &[], &[1])?;
     assert_eq!(rt; status, 6);
     assert!(rt; text.is_empty());

@@ -142,11 +142,14 @@ served_kept (mailet.Forward to pass_through) mail limits = tt
 served_kept (mailet.Bounce message pass_through) mail limits = tt
 served_kept (mailet.NotifyPostmaster pass_through) mail limits = tt
 served_kept mailet.LocalDelivery mail limits = tt
-served_kept (mailet.ToRepository path pass_through) mail limits = (record {
-      storable = both_true (has_recipients mail.recipients) (nat_le (length (written mail.head)) MAX_HEAD && is_small_body (body_len mail.body)) limits.recipients
-          (both_true (nat_le (length (written mail.head)) MAX_HEAD) (is_small_body (body_len mail.body)) limits.head limits.body);
-      own = own_body mail.body;
-    }, tt)
+served_kept (mailet.ToRepository path pass_through) mail limits = (
+  record {
+    storable = both_true (has_recipients mail.recipients) (nat_le (length (written mail.head)) MAX_HEAD && is_small_body (body_len mail.body)) limits.recipients
+        (both_true (nat_le (length (written mail.head)) MAX_HEAD) (is_small_body (body_len mail.body)) limits.head limits.body);
+    own = own_body mail.body;
+  },
+  tt,
+)
 served_kept (mailet.RemoteDelivery outgoing schedule gateway bounce_processor) mail limits = tt
 served_kept (mailet.Fail text) mail limits = tt
 

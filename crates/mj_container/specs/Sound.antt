@@ -40,7 +40,7 @@ abbrev pub keeps_limits : Mail → Bool
 keeps_limits mail =
     has_recipients mail.recipients
     && (are_attributes mail.attributes
-        && (nat_le (length mail.error) MAX_ERROR && (nat_le (length (written mail.head)) MAX_HEAD && is_small_body (body_len mail.body))))
+    && (nat_le (length mail.error) MAX_ERROR && (nat_le (length (written mail.head)) MAX_HEAD && is_small_body (body_len mail.body))))
 
 -- the plan has a processor of this name
 abbrev pub names_processor : Plan → List ℕ → Bool

@@ -10,4 +10,3 @@ mod top;
 
 pub use config::read_configuration;
 pub use top::james_one;
-

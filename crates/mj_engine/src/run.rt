@@ -76,11 +76,7 @@ pub fn run<F: Files>(alloc: Global, files: &mut F) -> Result<Bytes, RunFault>
     Ok(report.into_text()?)
 }
 
-fn load_rules<F: Files>(
-    alloc: Global,
-    files: &mut F,
-    room: usize,
-) -> Result<JamesRules, RunFault>
+fn load_rules<F: Files>(alloc: Global, files: &mut F, room: usize) -> Result<JamesRules, RunFault>
     requires { room ≡ room_of_plan }
     ensures exact { IfSome (F.told files.old) (λ told. GivesRules result (plan_in told)) }
     ensures same { F.told files.new ≡ F.told files.old }

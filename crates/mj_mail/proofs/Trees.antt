@@ -27,14 +27,14 @@ module _ {X : Type 0} (own : Mail → List X) (measure : Mail → ℕ) (step : M
   enough falls (suc n) (suc k) mail p q =
       ap (λ rest. own mail ++ rest)
       (flat_same (gather_within own step n) (gather_within own step k) (measure mail)
-          (λ child less. enough falls n k child (omega (arith, less, p)) (omega (arith, less, q))) (step mail).children (falls mail))
+      (λ child less. enough falls n k child (omega (arith, less, p)) (omega (arith, less, q))) (step mail).children (falls mail))
 
   pub gather_is : Falls measure step → (mail : Mail) → gather own measure step mail ≡ own mail ++ flat_map (gather own measure step) (step mail).children
   unfolding gather
   gather_is falls mail =
       ap (λ rest. own mail ++ rest)
       (flat_same (gather_within own step (measure mail)) (λ child. gather_within own step (suc (measure child)) child) (measure mail)
-          (λ child less. enough falls (measure mail) (suc (measure child)) child less (omega arith)) (step mail).children (falls mail))
+      (λ child less. enough falls (measure mail) (suc (measure child)) child less (omega arith)) (step mail).children (falls mail))
 
 -- a tree is the facts of the mail's step, and then the trees of its children
 pub tree_is : (measure : Mail → ℕ) (step : Mail → Outcome) → Falls measure step → (mail : Mail)

@@ -42,16 +42,23 @@ pub enum Fact {
         due: u64,
     },
     /// Its sender was told that it couldn't be delivered to these recipients.
-    Bounce { recipients: Recipients },
+    Bounce {
+        recipients: Recipients,
+    },
     /// It was given up for these recipients.
-    Dropped { why: Why, recipients: Recipients },
+    Dropped {
+        why: Why,
+        recipients: Recipients,
+    },
     /// It came past the last step of this processor.
     FellOff {
         processor: Bytes,
         recipients: Recipients,
     },
     /// It has been sent from processor to processor too often.
-    Looped { recipients: Recipients },
+    Looped {
+        recipients: Recipients,
+    },
     /// What becomes of it is too large to be kept.
     Overrun,
 }

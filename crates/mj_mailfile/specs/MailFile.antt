@@ -11,6 +11,7 @@ use Rattle.mj_address.specs.Same.{has_same}
 use Rattle.mj_head.specs.Head.{RawField, lines, content, head_of}
 use Rattle.mj_head.specs.declared.fault.HeadFault.{HeadFault}
 use Rattle.mj_head.specs.declared.fault.HeadFault.TheVariants as head
+use Rattle.mj_mail.specs.declared.limits.TheConstants.{MAX_BODY, MAX_RECIPIENTS}
 use Rattle.mj_mail.specs.declared.mail.NewMail.{NewMail}
 use Rattle.mj_mailfile.specs.declared.fault.MailFault.{MailFault}
 use Rattle.mj_mailfile.specs.declared.fault.MailFault.TheVariants.{TooLarge, NoMailFrom, BadSender, BadRecipient, TooManyRecipients, NoRecipient, NoData, BadHead, HeadTooLong, Memory}
@@ -90,7 +91,7 @@ sender_of line = sender_behind (behind_word (codes "MAIL FROM:") line)
 abbrev pub with_recipient : ℕ → List Mailbox → Option Mailbox → Result (List Mailbox) MailFault
 with_recipient number found None = Err (BadRecipient number)
 with_recipient number found (Some address) =
-    if has_same found address then Ok found else (if length found == 500 then Err TooManyRecipients else Ok (found ++ address ∷ []))
+    if has_same found address then Ok found else (if length found == MAX_RECIPIENTS then Err TooManyRecipients else Ok (found ++ address ∷ []))
 
 -- the recipients of the `RCPT TO:` lines at the front, beside those before them, and the lines behind; the first line
 -- has this number
@@ -134,12 +135,12 @@ mail_of bytes = mail_of_lines (lines bytes)
 
 -- the mail of a file, or its first fault
 unfoldable pub mail_file : List ℕ → Result NewMail MailFault
-mail_file bytes = within 16_777_216 (Err TooLarge) mail_of bytes
+mail_file bytes = within MAX_BODY (Err TooLarge) mail_of bytes
 
 -- so it is enough to read one byte more than a mail file may have
 pub mail_file-take : (room : ℕ) (bytes : List ℕ) → room ≡ 16_777_217 → mail_file (take room bytes) ≡ mail_file bytes
 unfolding mail_file
-mail_file-take room bytes e = within-take 16_777_216 room (Err TooLarge) mail_of bytes e
+mail_file-take room bytes e = within-take MAX_BODY room (Err TooLarge) mail_of bytes e
 
 -- ---- Steps of the reader
 

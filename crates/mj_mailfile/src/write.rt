@@ -9,16 +9,16 @@ ghost use Rattle.mj_mailfile.specs.Written.{ended, recipients_before, sender_tex
 use mj_address::{Address, Recipients};
 use mj_fields::{Bytes, Memory};
 use mj_head::Head;
-use mj_mail::NewMail;
+use mj_mail::{MAX_BODY, MAX_RECIPIENTS, NewMail};
 use std::alloc::Global;
 
 /// The mail as a mail file in its written form: CRLF at the end of each line, no blank before `<`, and behind the head
 /// CRLF and the body. Where it has at most 16,777,216 bytes it is read as the same mail again.
 pub fn write_mail_file(alloc: Global, mail: &NewMail) -> Result<Bytes, Memory>
     requires some { 1 ≤ length mail.now.recipients }
-    requires few { length mail.now.recipients ≤ 500 }
+    requires few { length mail.now.recipients ≤ MAX_RECIPIENTS }
     ensures written { IfOk result (λ text. text ≡ written_file mail.now) }
-    ensures read_again { IfOk result (λ text. length text ≤ 16_777_216 → mail_file text ≡ Ok mail.now) }
+    ensures read_again { IfOk result (λ text. length text ≤ MAX_BODY → mail_file text ≡ Ok mail.now) }
 {
     put_mail(alloc, mail)
 }
