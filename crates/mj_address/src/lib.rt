@@ -19,6 +19,3 @@ pub use fault::AddressFault;
 pub use forms::judge_local;
 pub use laws::{read_is_spelled, spelled_is_read};
 pub use recipients::Recipients;
-
-#[cfg(test)]
-mod tests;

@@ -18,6 +18,3 @@ pub use line::first_line;
 pub use read::{is_field_name, is_field_value, read_head, trim_end_blanks};
 pub use unfold::trim_blanks;
 pub use walk::Fields;
-
-#[cfg(test)]
-mod tests;

@@ -8,6 +8,3 @@ mod write;
 pub use fault::MailFault;
 pub use read::{MAX_FILE, read_mail_file};
 pub use write::write_mail_file;
-
-#[cfg(test)]
-mod tests;

@@ -4,8 +4,6 @@
 
 mod dates;
 mod moments;
-#[cfg(test)]
-mod tests;
 
 pub use dates::date_text;
 pub use mj_delays::{Schedule, ScheduleFault, numeral};

@@ -1,5 +1,5 @@
 //! Mail files in many spellings, and their written form.
-use super::*;
+use mj_mailfile::{read_mail_file, write_mail_file};
 use std::test::Fail;
 
 #[test]

@@ -1,4 +1,6 @@
-use super::*;
+//! Domains, addresses and lists of recipients, at their limits.
+use crate::texts::stretched;
+use mj_address::{Address, AddressFault, Domain, Recipients};
 use std::alloc::{AllocError, Global};
 use std::process::Abort;
 use std::test::Fail;
@@ -14,7 +16,7 @@ fn labels(alloc: Global, length: usize) -> Result<Vec<u8>, AllocError> {
 
 // As many of the byte, and the rest.
 fn led_by(alloc: Global, count: usize, byte: u8, rest: &str) -> Result<Vec<u8>, AllocError> {
-    let mut text = vec![in alloc; byte; count]?;
+    let mut text = stretched(alloc, b"", byte, count)?;
     text.extend_from_slice(rest.as_bytes())?;
     Ok(text)
 }

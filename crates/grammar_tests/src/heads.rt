@@ -1,5 +1,9 @@
 //! Heads from outside of the crate: whole messages, and short hostile texts.
-use super::*;
+ghost use Rattle.std.specs.Prelude.{◌≡◌, IfOk};
+ghost use Rattle.mj_head.specs.Head.{written};
+
+use crate::texts::stretched;
+use mj_head::{Head, HeadFault, is_field_name, is_field_value, read_head, write_head};
 use std::alloc::{AllocError, Global};
 use std::test::Fail;
 
@@ -51,11 +55,7 @@ fn finds_the_body_and_the_first_fault(rt: HostRuntime) {
 
 #[test]
 fn limits_the_written_form(rt: HostRuntime) -> Result<(), Fail> {
-    let mut text = Vec::new(rt.alloc());
-    text.extend_from_slice(b"a:")?;
-    for _ in 0..65_532 {
-        text.push(b'x')?;
-    }
+    let mut text = stretched(rt.alloc(), b"a:", b'x', 65_532)?;
     assert!(rt; place_of(rt.alloc(), &text) == Ok(65_534));
     text.push(b'x')?;
     assert!(rt; place_of(rt.alloc(), &text) == Err(HeadFault::TooLong { line: 1 }));
@@ -124,10 +124,7 @@ fn appends(head: &mut Head, name: &[u8], value: &[u8]) -> Result<bool, AllocErro
 
 #[test]
 fn appends_what_fits(rt: HostRuntime) -> Result<(), Fail> {
-    let mut value = Vec::new(rt.alloc());
-    for _ in 0..65_525 {
-        value.push(b'x')?;
-    }
+    let value = stretched(rt.alloc(), b"", b'x', 65_525)?;
     let mut head = Head::new(rt.alloc());
     assert!(rt; appends(&mut head, b"A", &value)?);
     assert!(rt; head.written_len() == 65_530);
@@ -135,5 +132,49 @@ fn appends_what_fits(rt: HostRuntime) -> Result<(), Fail> {
     assert!(rt; head.written_len() == 65_530);
     assert!(rt; appends(&mut head, b"X", b"")?);
     assert!(rt; head.written_len() == 65_535);
+    Ok(())
+}
+
+/// The written form of a head, field by field.
+fn written_by_fields(alloc: Global, head: &Head) -> Result<Vec<u8>, AllocError>
+    ensures { IfOk result (λ text. text.items ≡ written head.now) }
+{
+    let mut text = Vec::new(alloc);
+    for field in head.fields() {
+        text.extend_from_slice(field.name())?;
+        text.extend_from_slice(b":")?;
+        text.extend_from_slice(field.body())?;
+        text.extend_from_slice(b"\r\n")?;
+    }
+    Ok(text)
+}
+
+#[test]
+fn gives_the_fields_in_order(rt: HostRuntime) -> Result<(), Fail> {
+    let (head, _place) = read_head(rt.alloc(), MESSAGE.as_bytes())?;
+    let text = written_by_fields(rt.alloc(), &head)?;
+    assert!(rt; MESSAGE.as_bytes().starts_with(text.as_slice()));
+    assert_eq!(rt; text.len(), 278);
+    let mut fields = head.fields();
+    let first = fields.next().ok_or("no field")?;
+    assert!(rt; first.is_named(b"received"));
+    let second = fields.next().ok_or("no second field")?;
+    assert!(rt; second.name() == b"From".as_slice());
+    assert!(rt; second.body() == b" Cara <cara@example.net>".as_slice());
+    assert_eq!(rt; head.fields().count(), 7);
+    assert!(rt; Head::new(rt.alloc()).fields().next().is_none());
+    Ok(())
+}
+
+#[test]
+fn gives_many_fields(rt: HostRuntime) -> Result<(), Fail> {
+    let mut text = Vec::new(rt.alloc());
+    for _ in 0..16_384 {
+        text.extend_from_slice(b"a:\r\n")?;
+    }
+    let (head, _place) = read_head(rt.alloc(), &text)?;
+    let again = written_by_fields(rt.alloc(), &head)?;
+    assert!(rt; again.as_slice() == text.as_slice());
+    assert_eq!(rt; head.fields().count(), 16_384);
     Ok(())
 }

@@ -1,0 +1,17 @@
+//! Tests of addresses, heads, delays, moments, dates and mail files.
+#![tactic(auto)]
+
+#[cfg(test)]
+mod addresses;
+#[cfg(test)]
+mod delays;
+#[cfg(test)]
+mod heads;
+#[cfg(test)]
+mod mail_files;
+#[cfg(test)]
+mod plain_lines;
+#[cfg(test)]
+mod texts;
+#[cfg(test)]
+mod times;
