@@ -1,0 +1,2 @@
+pub mod Taping
+pub mod Tearing
