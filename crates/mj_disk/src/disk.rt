@@ -27,7 +27,7 @@ pub trait Disk {
         requires { Now (moments self.old) (λ m. at ≤ length m.bytes) }
         ensures bound { IfOk result (λ n. n ≤ length into.old) }
         ensures bytes { IfOk result (λ n. Now (moments self.old) (λ m. take n into.new ≡ take (length into.old) (drop at m.bytes))) }
-        ensures rest { IfOk result (λ n. drop n into.new ≡ drop n into.old) }
+        ensures rest { IfOk result (λ n. Now (moments self.old) (λ _. drop n into.new ≡ drop n into.old)) }
         ensures same { moments self.new ≡ moments self.old }
         ensures cause { HasCause (record {}) (faults self.old) (faults self.new) result };
 

@@ -6,9 +6,11 @@
 #![tactic(auto)]
 
 mod disk;
+mod file;
 mod memory;
 mod tape;
 
 pub use disk::{Disk, DiskFailed};
+pub use file::FileDisk;
 pub use memory::MemoryDisk;
 pub use tape::DiskCall;

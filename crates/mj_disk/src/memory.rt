@@ -126,7 +126,7 @@ impl Disk for MemoryDisk {
         requires { Now (moments_of self.old.past) (λ m. at ≤ length m.bytes) }
         ensures bound { IfOk result (λ n. n ≤ length into.old) }
         ensures bytes { IfOk result (λ n. Now (moments_of self.old.past) (λ m. take n into.new ≡ take (length into.old) (drop at m.bytes))) }
-        ensures rest { IfOk result (λ n. drop n into.new ≡ drop n into.old) }
+        ensures rest { IfOk result (λ n. Now (moments_of self.old.past) (λ _. drop n into.new ≡ drop n into.old)) }
         ensures same { moments_of self.new.past ≡ moments_of self.old.past }
         ensures cause { HasCause (record {}) self.old.faults self.new.faults result }
         ensures fails { IsErr result ↔ (fails_next self.old ≡ true) }
