@@ -7,6 +7,7 @@
 
 mod disk;
 mod file;
+mod image;
 mod memory;
 mod tape;
 

@@ -3,7 +3,7 @@ ghost use Rattle.mj_terms.specs.Causes.{HasCause};
 ghost use Rattle.mj_fields.specs.Calls.{next};
 ghost use Rattle.mj_disk.specs.declared.tape.DiskCall.TheVariants.{Write, Cut, Sync};
 ghost use Rattle.mj_disk.specs.Held.{fails_next, went_on, failed_once};
-ghost use Rattle.mj_disk.specs.Media.{written, shortened, synced};
+ghost use Rattle.mj_disk.specs.Media.{IsImage, written, shortened, synced};
 ghost use Rattle.mj_disk.specs.Moments.{Now, Changes, bytes_now};
 ghost use Rattle.mj_disk.specs.Past.{then_call, moments_of, reads_itself};
 
@@ -18,6 +18,7 @@ use std::marker::Model;
 /// room. A call that fails does nothing.
 #[derive(Debug, Drop)]
 pub struct MemoryDisk {
+    alloc: Global,
     tape: Tape,
     calls: Calls,
     left: Option<u64>,
@@ -37,6 +38,7 @@ impl MemoryDisk {
         ensures { IfOk result (λ d. d ≡ record { past = record { first = bytes; calls = [] }; failing = failing; left = None; calls = 0; faults = 0 }) }
     {
         Ok(MemoryDisk {
+            alloc,
             tape: Tape::new(alloc, bytes.into_vec())?,
             calls: Calls::new(failing),
             left: None,
@@ -55,6 +57,22 @@ impl MemoryDisk {
         ensures { self.new ≡ record self.old { left = Some calls } }
     {
         self.left = Some(calls);
+    }
+
+    /// The image of this number that a crash now may leave, as a disk at rest without failing calls. Number 0 gives
+    /// the bytes of the last sync, or those that the disk was made with; number 1 the bytes as they read. Each
+    /// other number decides by its draws the length, and then in order each byte that the disk doesn't leave as it
+    /// is: as it was synced, as it reads, or drawn.
+    pub fn image(&self, number: u32) -> Result<MemoryDisk, Memory>
+        ensures image { IfOk result (λ d. Now (moments_of self.now.past) (λ m. IsImage m d.past.first)) }
+        ensures at_rest { IfOk result (λ d. d ≡ record { past = record { first = d.past.first; calls = [] }; failing = []; left = None; calls = 0; faults = 0 }) }
+    {
+        Ok(MemoryDisk {
+            alloc: self.alloc,
+            tape: self.tape.image(number)?,
+            calls: Calls::new(Items::new(self.alloc)),
+            left: None,
+        })
     }
 
     /// Counts one more call, and says whether it fails.

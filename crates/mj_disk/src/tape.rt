@@ -1,9 +1,10 @@
 ghost use Rattle.std.specs.Prelude.{◌≡◌, ◌+◌, ◌-◌, ◌<◌, ◌≤◌, ◌^◌, ◌++◌, ◌∷◌, [], Some, length, take, drop, IfOk, OnOk, OnErr};
 ghost use Rattle.mj_disk.specs.declared.tape.DiskCall.TheVariants.{Write, Cut, Sync};
-ghost use Rattle.mj_disk.specs.Media.{overwritten};
-ghost use Rattle.mj_disk.specs.Moments.{bytes_now};
+ghost use Rattle.mj_disk.specs.Media.{IsImage, overwritten};
+ghost use Rattle.mj_disk.specs.Moments.{Now, bytes_now};
 ghost use Rattle.mj_disk.specs.Past.{then_call, moments_of};
 
+use crate::image::{Draws, Torn, torn_bytes};
 use mj_fields::{Bytes, Memory};
 use std::alloc::{AllocError, Global};
 use std::marker::Model;
@@ -126,4 +127,54 @@ impl Tape {
         self.greatest = self.least;
         Ok(())
     }
+
+    /// The length of the image of this number: that of the last synced bytes, that of the bytes as they read, or a
+    /// drawn one between the least and the greatest.
+    fn image_size(&self, number: u32, synced: usize, draws: &mut Draws) -> u64 {
+        let spread = self.greatest.saturating_sub(self.least).saturating_add(1);
+        let range = if spread >= 65_536 { 65_535 } else { spread };
+        match number {
+            0 => synced as u64,
+            1 => self.bytes.len() as u64,
+            _ => self.least.saturating_add(u64::from(draws.draw()) % range),
+        }
+    }
+
+    /// An image that a crash now may leave, as a disk at rest.
+    pub fn image(&self, number: u32) -> Result<Tape, Memory>
+        ensures image { IfOk result (λ t. Now (moments_of self.now) (λ m. IsImage m t.first)) }
+        ensures at_rest { IfOk result (λ t. t.calls ≡ []) }
+    {
+        let synced = replay(
+            self.alloc,
+            self.first.as_slice(),
+            &self.calls[..self.synced],
+        )?;
+        let mut draws = Draws { s: number };
+        let size = self.image_size(number, synced.len(), &mut draws);
+        let torn = Torn {
+            calls: &self.calls[self.synced..],
+            bytes: &self.bytes,
+            synced: &synced,
+            least: self.least,
+        };
+        let size = size.min(self.greatest).max(self.least);
+        let bytes = torn_bytes(self.alloc, &torn, number, &mut draws, size)?;
+        Tape::new(self.alloc, bytes)
+    }
+}
+
+/// The bytes after these calls.
+fn replay(alloc: Global, first: &[u8], calls: &[DiskCall]) -> Result<Vec<u8>, Memory> {
+    let mut bytes = Vec::from_slice(alloc, first)?;
+    for call in calls {
+        match call {
+            DiskCall::Write { at, bytes: piece } => {
+                overwrite(&mut bytes, *at as usize, piece.as_slice())?;
+            }
+            DiskCall::Cut { size } => bytes.truncate(*size as usize),
+            DiskCall::Sync => {}
+        }
+    }
+    Ok(bytes)
 }
