@@ -1,8 +1,9 @@
 -- The frames of a file, one after the other.
-use Rattle.std.proofs.Common.{◌≡◌, ℕ, suc, ◌+◌, ◌<◌, ◌≤◌, List, [], ◌∷◌, ◌++◌, length, take, drop, get_or, refl, sym, ◌∙◌, ap, subst, arith, length-append, length-drop, take-append-drop, take-add}
+use Rattle.std.proofs.Common.{◌≡◌, ℕ, zero, suc, ◌+◌, ◌<◌, ◌≤◌, List, [], ◌∷◌, ◌++◌, length, take, drop, get_or, refl, sym, ◌∙◌, ap, subst, arith, length-append, length-drop, take-append-drop, take-add}
 use Rattle.std.proofs.lemmas.List.{drop_more, length-take-le}
-use Rattle.mj_log.specs.FrameLaws.{Leads, framed, four, leads_next, leads_magic}
-use Rattle.mj_log.specs.Journal.{magic}
+use Rattle.std.specs.Prelude.{nat_le, nat_lt, ◌&&◌, false}
+use Rattle.mj_log.specs.FrameLaws.{Leads, framed, four, leads_next, leads_magic, leads_broken}
+use Rattle.mj_log.specs.Journal.{magic, number_of, payloads, damaged}
 use Rattle.mj_log.specs.View.{IsWalked}
 
 -- one frame more
@@ -42,3 +43,16 @@ walk_ends count end bytes h within gate = record {
   number = h.number;
   whole = sym (take-append-drop end bytes) ∙ ap (λ (l : List ℕ). take end bytes ++ l) (drop_more bytes end 0 within ∙ ap (λ (n : ℕ). n ∷ drop (end + 1) bytes) gate);
 }
+
+-- a gate that is open, and no whole frame behind it
+pub walk_breaks : (count end : ℕ) (bytes rest : List ℕ) → HasFrames count end bytes → end < length bytes → 9 < length bytes → 0 < get_or bytes end 0 → rest ≡ drop (end + 1) bytes
+    → (nat_le 4 (length rest) && (nat_le (number_of (take 4 rest)) 134217728 && nat_lt (4 + number_of (take 4 rest)) (length rest))) ≡ false → payloads bytes ≡ damaged count
+walk_breaks count end bytes rest h within long gate is broken =
+    let split : drop end bytes ≡ get_or bytes end 0 ∷ rest = drop_more bytes end 0 within ∙ ap (λ (l : List ℕ). get_or bytes end 0 ∷ l) (sym is) in
+    let whole : bytes ≡ take end bytes ++ get_or bytes end 0 ∷ rest = sym (take-append-drop end bytes) ∙ ap (λ (l : List ℕ). take end bytes ++ l) split in
+    let size : length (take end bytes) + (1 + length rest) ≡ length bytes = omega (arith, ap (λ (l : List ℕ). length l) whole, length-append (take end bytes) (get_or bytes end 0 ∷ rest)) in
+    ap payloads whole ∙ leads_broken h.payloads_are (take end bytes) (get_or bytes end 0) rest gate broken (omega arith) h.leads ∙ ap damaged h.number
+
+pub positive : (n : ℕ) → (n ≡ 0 → ⊥) → 0 < n
+positive zero h = absurd (h refl)
+positive (suc n) h = omega arith

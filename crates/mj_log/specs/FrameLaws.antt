@@ -3,6 +3,7 @@ use Rattle.std.specs.Prelude.{◌≡◌, ℕ, zero, suc, ◌+◌, ◌/◌, ◌%�
 use Rattle.std.proofs.Common.{sym, ◌∙◌, ap, subst, arith, append_assoc, length-append, length-drop}
 use Rattle.std.proofs.lemmas.Bool.Decides.{nat_tests}
 use Rattle.std.proofs.lemmas.List.{append-nil, take_at, drop_at}
+use Rattle.std.specs.Str.{bytes_eq}
 use Rattle.mj_log.specs.Journal.{Reading, reads, damaged, not_a_journal, magic, number_of, behind, frames, payloads}
 
 -- four bytes, the least first
@@ -66,25 +67,48 @@ ahead_behind ps q not_a_journal = refl
 -- behind this front of a journal the frames go on after these payloads
 pub record Leads (ps : List (List ℕ)) (front : List ℕ) : Type 0 where
   pub closed : (junk : List ℕ) → payloads (front ++ 0 ∷ junk) ≡ reads ps
-  pub goes_on : (rest : List ℕ) → 2 ≤ length rest → payloads (front ++ rest) ≡ ahead ps (frames (length rest) (length ps) rest)
+  pub goes_on : (rest : List ℕ) → 1 ≤ length rest → 10 ≤ length front + length rest → payloads (front ++ rest) ≡ ahead ps (frames (length rest) (length ps) rest)
+  pub long : 8 ≤ length front
 
 -- with one frame more
 pub leads_next : (ps : List (List ℕ)) (front : List ℕ) (g : ℕ) (q : List ℕ) → 0 < g → length q ≤ 134217728 → Leads ps front → Leads (ps ++ q ∷ []) (front ++ g ∷ framed q)
 leads_next ps front g q gate short h = record {
   closed = λ junk. ap payloads (append_assoc front (g ∷ framed q) (0 ∷ junk)) ∙ more (0 ∷ junk) (omega arith)
       ∙ ap (λ (r : Reading). ahead (ps ++ q ∷ []) r) (frames_closed (length junk) (length (ps ++ q ∷ [])) junk) ∙ ap reads (append-nil (ps ++ q ∷ []));
-  goes_on = λ rest two. ap payloads (append_assoc front (g ∷ framed q) rest) ∙ more rest (omega arith);
+  goes_on = λ rest one ten. ap payloads (append_assoc front (g ∷ framed q) rest) ∙ more rest one;
+  long = let before = h.long in omega (arith, length-append front (g ∷ framed q));
 }
   where
     more : (rest : List ℕ) → 1 ≤ length rest → payloads (front ++ (g ∷ (framed q ++ rest))) ≡ ahead (ps ++ q ∷ []) (frames (length rest) (length (ps ++ q ∷ [])) rest)
     more rest one =
         let long : length (framed q ++ rest) ≡ 4 + length q + length rest = omega (arith, length-append (framed q) rest, length-append (four (length q)) q) in
         let count : length ps + 1 ≡ length (ps ++ q ∷ []) = omega (arith, length-append ps (q ∷ [])) in
-        h.goes_on (g ∷ (framed q ++ rest)) (omega arith)
+        let before = h.long in
+        h.goes_on (g ∷ (framed q ++ rest)) (omega arith) (omega arith)
         ∙ ap (λ (r : Reading). ahead ps r) (frames_open (length (framed q ++ rest)) (length ps) g q rest gate short one)
         ∙ ahead_behind ps q (frames (length (framed q ++ rest)) (length ps + 1) rest)
         ∙ ap (λ (r : Reading). ahead (ps ++ q ∷ []) r) (frames_fuel (length (framed q ++ rest)) (length rest) (length ps + 1) rest (omega arith) (omega arith)
         ∙ ap (λ (n : ℕ). frames (length rest) n rest) count)
+
+-- an open gate without a whole frame and a gate behind it
+pub frames_broken : (f n g : ℕ) (rest : List ℕ) → 0 < g → (nat_le 4 (length rest) && (nat_le (number_of (take 4 rest)) 134217728 && nat_lt (4 + number_of (take 4 rest)) (length rest))) ≡ false → frames (suc f) n (g ∷ rest) ≡ damaged n
+unfolding frames
+frames_broken f n g rest gate broken =
+    let test : (g == 0) ≡ false = grind (arith, nat_tests) in
+    rw (test, broken)
+
+-- so the file is damaged there
+pub leads_broken : (ps : List (List ℕ)) (front : List ℕ) (g : ℕ) (rest : List ℕ) → 0 < g → (nat_le 4 (length rest) && (nat_le (number_of (take 4 rest)) 134217728 && nat_lt (4 + number_of (take 4 rest)) (length rest))) ≡ false
+    → 10 ≤ length front + (1 + length rest) → Leads ps front → payloads (front ++ g ∷ rest) ≡ damaged (length ps)
+leads_broken ps front g rest gate broken ten h =
+    h.goes_on (g ∷ rest) (omega arith) (omega arith) ∙ ap (λ (r : Reading). ahead ps r) (frames_broken (length rest) (length ps) g rest gate broken)
+
+-- a longer file that begins otherwise
+pub other_file : (bytes : List ℕ) → 9 < length bytes → bytes_eq (take 8 bytes) magic ≡ false → payloads bytes ≡ not_a_journal
+unfolding payloads
+other_file bytes more other =
+    let long : nat_le (length bytes) 9 ≡ false = grind (arith, nat_tests) in
+    rw (long, other)
 
 -- frames behind a gate, one after the other, and a closed gate
 abbrev pub chain : List ℕ → List (List ℕ) → List ℕ
@@ -131,4 +155,4 @@ closed_magic [] = reads_short (magic ++ 0 ∷ []) (omega arith)
 closed_magic (j ∷ junk) = goes_on_magic (0 ∷ j ∷ junk) (omega arith) ∙ frames_closed (length (j ∷ junk)) 0 (j ∷ junk)
 
 pub leads_magic : Leads [] magic
-leads_magic = record { closed = closed_magic; goes_on = λ rest two. goes_on_magic rest two ∙ sym (ahead_nothing (frames (length rest) 0 rest)) }
+leads_magic = record { closed = closed_magic; goes_on = λ rest one ten. goes_on_magic rest (omega arith) ∙ sym (ahead_nothing (frames (length rest) 0 rest)); long = omega arith }

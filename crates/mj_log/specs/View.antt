@@ -3,6 +3,8 @@ use Rattle.std.specs.Prelude.{◌≡◌, ℕ, ◌<◌, ◌≤◌, ◌^◌, List,
 use Rattle.mj_disk.specs.Media.{Media, settled}
 use Rattle.mj_disk.specs.Moments.{Now, bytes_now}
 use Rattle.mj_log.specs.Journal.{Reading, reads, damaged, not_a_journal, payloads}
+use Rattle.mj_log.specs.declared.fault.LogFault.{LogFault}
+use Rattle.mj_log.specs.declared.fault.LogFault.TheVariants.{NotAJournal, Damaged, Full, DiskFault, Stopped, Memory}
 use Rattle.mj_log.specs.FrameLaws.{Leads, framed}
 
 pub record LogView (D : Type 0) : Type 0 where
@@ -55,3 +57,21 @@ pub record IsWalked (count end : ℕ) (bytes : List ℕ) : Type 0 where
 -- the one file reads as the other does
 abbrev pub ReadsLike : List ℕ → List ℕ → Type 0
 ReadsLike old bytes = payloads bytes ≡ payloads old
+
+-- what a refused reopening says of the file
+abbrev pub Refuses : LogFault → Reading → Type 0
+Refuses NotAJournal reading = reading ≡ not_a_journal
+Refuses (Damaged number) reading = reading ≡ damaged number
+Refuses (Full end need) reading = ⊥
+Refuses (DiskFault faults) reading = Unit {0}
+Refuses (Stopped faults) reading = ⊥
+Refuses Memory reading = Unit {0}
+
+-- where the file is refused for what it holds, it reads as before
+abbrev pub Keeps : LogFault → List Media → List Media → Type 0
+Keeps NotAJournal old new = bytes_now new ≡ bytes_now old
+Keeps (Damaged number) old new = bytes_now new ≡ bytes_now old
+Keeps (Full end need) old new = Unit {0}
+Keeps (DiskFault faults) old new = Unit {0}
+Keeps (Stopped faults) old new = Unit {0}
+Keeps Memory old new = Unit {0}

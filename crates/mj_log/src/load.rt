@@ -1,9 +1,10 @@
-ghost use Rattle.std.specs.Prelude.{◌≡◌, ◌+◌, ◌<◌, ◌≤◌, ◌^◌, ◌++◌, ◌∷◌, [], ℕ, List, length, take, IfOk, IsErrOf};
+ghost use Rattle.std.specs.Prelude.{◌≡◌, ◌+◌, ◌<◌, ◌≤◌, ◌^◌, ◌++◌, ◌∷◌, [], ℕ, List, length, take, IfOk, IfErr, IsErrOf};
 ghost use Rattle.mj_terms.specs.Causes.{Rose};
-ghost use Rattle.mj_disk.specs.Moments.{Now, LeavesOnly, RestsAt};
-ghost use Rattle.mj_log.specs.Journal.{payloads};
+ghost use Rattle.mj_disk.specs.Moments.{Now, LeavesOnly, RestsAt, bytes_now};
+ghost use Rattle.mj_disk.specs.Media.{Media};
+ghost use Rattle.mj_log.specs.Journal.{Reading, payloads};
 ghost use Rattle.mj_log.specs.Log.{ReadsAsAt};
-ghost use Rattle.mj_log.specs.View.{IsJournal, ReadsLike};
+ghost use Rattle.mj_log.specs.View.{IsJournal, ReadsLike, Refuses, Keeps};
 
 use crate::LogFault;
 use crate::gate::{close_behind, write_anew};
@@ -17,6 +18,9 @@ fn fetch<D: Disk>(alloc: Global, disk: &mut D) -> Result<Vec<u8>, LogFault>
     ensures bytes { IfOk result (λ v. Now (D.moments disk.old) (λ m. m.bytes ≡ v.items)) }
     ensures rests { IfOk result (λ v. RestsAt (D.moments disk.new) v.items) }
     ensures small { IfOk result (λ v. length v.items < 2 ^ 63) }
+    ensures fault { IfErr result (λ e. ((r : Reading) → Refuses e r) × ((old new : List Media) → Keeps e old new)) }
+    ensures kept { IfOk result (λ _. bytes_now (D.moments disk.new) ≡ bytes_now (D.moments disk.old)) }
+    ensures carried { (n : ℕ) → IsErrOf result (LogFault.DiskFault n) → n ≡ D.faults disk.new }
     ensures cause { (n : ℕ) → IsErrOf result (LogFault.DiskFault n) → Rose (D.faults disk.old) (D.faults disk.new) }
     ensures later { D.faults disk.old ≤ D.faults disk.new }
 {
@@ -49,6 +53,9 @@ fn repair<D: Disk>(disk: &mut D, bytes: &[u8]) -> Result<Place, LogFault>
     ensures any_moment { LeavesOnly (D.moments disk.old) (D.moments disk.new) (ReadsLike bytes.now) }
     ensures journal { IfOk result (λ p. Now (D.moments disk.new) (IsJournal p.count p.end)) }
     ensures place { IfOk result (λ p. (p.count ≤ p.end) × (p.end < 2 ^ 63)) }
+    ensures fault { IfErr result (λ e. Refuses e (payloads bytes.now)) }
+    ensures kept { IfErr result (λ e. Keeps e (D.moments disk.old) (D.moments disk.new)) }
+    ensures carried { (n : ℕ) → IsErrOf result (LogFault.DiskFault n) → n ≡ D.faults disk.new }
     ensures cause { (n : ℕ) → IsErrOf result (LogFault.DiskFault n) → Rose (D.faults disk.old) (D.faults disk.new) }
     ensures later { D.faults disk.old ≤ D.faults disk.new }
 {
@@ -75,6 +82,9 @@ pub fn load<D: Disk>(alloc: Global, disk: &mut D) -> Result<Place, LogFault>
     ensures same { IfOk result (λ p. Now (D.moments disk.old) (λ m. Now (D.moments disk.new) (λ n. payloads n.bytes ≡ payloads m.bytes))) }
     ensures journal { IfOk result (λ p. Now (D.moments disk.new) (IsJournal p.count p.end)) }
     ensures place { IfOk result (λ p. (p.count ≤ p.end) × (p.end < 2 ^ 63)) }
+    ensures fault { IfErr result (λ e. Now (D.moments disk.old) (λ m. Refuses e (payloads m.bytes))) }
+    ensures kept { IfErr result (λ e. Keeps e (D.moments disk.old) (D.moments disk.new)) }
+    ensures carried { (n : ℕ) → IsErrOf result (LogFault.DiskFault n) → n ≡ D.faults disk.new }
     ensures cause { (n : ℕ) → IsErrOf result (LogFault.DiskFault n) → Rose (D.faults disk.old) (D.faults disk.new) }
     ensures later { D.faults disk.old ≤ D.faults disk.new }
 {

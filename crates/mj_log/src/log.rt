@@ -1,9 +1,10 @@
 ghost use Rattle.std.specs.Prelude.{◌≡◌, ◌+◌, ◌*◌, ◌/◌, ◌%◌, ◌<◌, ◌≤◌, ◌^◌, ◌++◌, ◌∷◌, [], ℕ, List, Option, Some, None, length, IfOk, IfErr, OnOk, OnErr, IsErrOf};
 ghost use Rattle.mj_terms.specs.Causes.{Rose};
-ghost use Rattle.mj_disk.specs.Moments.{LeavesOnly, bytes_now};
+ghost use Rattle.mj_disk.specs.Moments.{Now, LeavesOnly, bytes_now};
+ghost use Rattle.mj_log.specs.Journal.{payloads};
 ghost use Rattle.mj_log.specs.FrameLaws.{AllShort, chain, framed};
 ghost use Rattle.mj_log.specs.Log.{ReadsAs, ReadsAsAt, WithOrWithout, IsAt, texts};
-ghost use Rattle.mj_log.specs.View.{LogView, told_of, IsLog, joined};
+ghost use Rattle.mj_log.specs.View.{LogView, told_of, IsLog, joined, Refuses, Keeps};
 
 use crate::gate::put_behind_gate;
 use crate::load::load;
@@ -117,6 +118,10 @@ impl<D: Disk + Drop> Log<D> {
         ensures cause { IfErr result (λ r. (n : ℕ) → r.fault ≡ LogFault.DiskFault n → Rose (D.faults disk) (D.faults r.disk)) }
         ensures later { IfOk result (λ log. D.faults disk ≤ D.faults log.disk) }
         ensures later_refused { IfErr result (λ r. D.faults disk ≤ D.faults r.disk) }
+        // NotAJournal and Damaged come exactly where the file reads so, and leave it reading the same bytes.
+        ensures fault { IfErr result (λ r. Now (D.moments disk) (λ m. Refuses r.fault (payloads m.bytes))) }
+        ensures kept { IfErr result (λ r. Keeps r.fault (D.moments disk) (D.moments r.disk)) }
+        ensures carried { IfErr result (λ r. (n : ℕ) → r.fault ≡ LogFault.DiskFault n → n ≡ D.faults r.disk) }
     {
         let mut disk = disk;
         match load(alloc, &mut disk) {
@@ -141,6 +146,12 @@ impl<D: Disk + Drop> Log<D> {
         ensures cause { (n : ℕ) → IsErrOf result (LogFault.DiskFault n) → Rose (D.faults self.old.disk) (D.faults self.new.disk) × (self.new.stop ≡ Some n) × (told_of (D.moments self.new.disk) self.new.count ≡ told_of (D.moments self.old.disk) self.old.count) }
         ensures refused { OnErr result (self.new.stop ≡ None → self.new ≡ self.old) }
         ensures stopped { (n : ℕ) → self.old.stop ≡ Some n → IsErrOf result (LogFault.Stopped n) × (self.new ≡ self.old) }
+        ensures number { IfOk result (λ n. (n ≡ self.old.count) × (self.new.count ≡ self.old.count + 1)) }
+        // Full comes exactly where the frame would pass the limit, and the log isn't stopped.
+        ensures full { self.old.stop ≡ None → self.old.limit < self.old.end + 6 + length payload.now → IsErrOf result (LogFault.Full self.old.end (self.old.end + 6 + length payload.now)) }
+        ensures full_only { (e n : ℕ) → IsErrOf result (LogFault.Full e n) → (self.old.stop ≡ None) × (self.old.limit < self.old.end + 6 + length payload.now) }
+        ensures stopped_only { (n : ℕ) → IsErrOf result (LogFault.Stopped n) → self.old.stop ≡ Some n }
+        ensures carried { (n : ℕ) → IsErrOf result (LogFault.DiskFault n) → n ≡ D.faults self.new.disk }
         ensures later { D.faults self.old.disk ≤ D.faults self.new.disk }
     {
         if let Some(faults) = self.stop {
@@ -169,6 +180,10 @@ impl<D: Disk + Drop> Log<D> {
         ensures cause { (n : ℕ) → IsErrOf result (LogFault.DiskFault n) → Rose (D.faults self.old.disk) (D.faults self.new.disk) × (self.new.stop ≡ Some n) × (told_of (D.moments self.new.disk) self.new.count ≡ told_of (D.moments self.old.disk) self.old.count) }
         ensures refused { OnErr result (self.new.stop ≡ None → self.new ≡ self.old) }
         ensures stopped { (n : ℕ) → self.old.stop ≡ Some n → IsErrOf result (LogFault.Stopped n) × (self.new ≡ self.old) }
+        ensures number { IfOk result (λ n. (n ≡ self.old.count) × (self.new.count ≡ self.old.count + length payloads.now)) }
+        ensures full_only { (e n : ℕ) → IsErrOf result (LogFault.Full e n) → (self.old.stop ≡ None) × (self.old.limit < n) × (e ≡ self.old.end) }
+        ensures stopped_only { (n : ℕ) → IsErrOf result (LogFault.Stopped n) → self.old.stop ≡ Some n }
+        ensures carried { (n : ℕ) → IsErrOf result (LogFault.DiskFault n) → n ≡ D.faults self.new.disk }
         ensures later { D.faults self.old.disk ≤ D.faults self.new.disk }
     {
         if let Some(faults) = self.stop {

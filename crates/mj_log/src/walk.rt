@@ -1,7 +1,8 @@
-ghost use Rattle.std.specs.Prelude.{◌≡◌, ◌+◌, ◌*◌, ◌<◌, ◌≤◌, ◌^◌, ◌++◌, ◌∷◌, ℕ, List, length, take, IfOk, IfErr, IfSome, true};
-ghost use Rattle.mj_log.specs.Journal.{magic};
+ghost use Rattle.std.specs.Prelude.{false, nat_le, nat_lt, ◌&&◌, IsNone, ◌≡◌, ◌+◌, ◌*◌, ◌<◌, ◌≤◌, ◌^◌, ◌++◌, ◌∷◌, ℕ, List, length, take, IfOk, IfErr, IfSome, true};
+ghost use Rattle.std.specs.Str.{bytes_eq};
+ghost use Rattle.mj_log.specs.Journal.{magic, number_of, payloads};
 ghost use Rattle.mj_log.specs.FrameLaws.{four};
-ghost use Rattle.mj_log.specs.View.{IsWalked};
+ghost use Rattle.mj_log.specs.View.{IsWalked, Refuses};
 
 use crate::LogFault;
 
@@ -14,7 +15,8 @@ pub struct Place {
 
 /// The length of the payload in a frame whose payload and next gate are there.
 fn frame_size(rest: &[u8]) -> Option<usize>
-    ensures { IfSome result (λ size. (size ≤ 134217728) × (4 + size < length rest.now) × (take 4 rest.now ≡ four size)) }
+    ensures some { IfSome result (λ size. (size ≤ 134217728) × (4 + size < length rest.now) × (take 4 rest.now ≡ four size)) }
+    ensures none { IsNone result → (nat_le 4 (length rest.now) && (nat_le (number_of (take 4 rest.now)) 134217728 && nat_lt (4 + number_of (take 4 rest.now)) (length rest.now))) ≡ false }
 {
     let [a, b, c, d, after @ ..] = rest else {
         return None;
@@ -26,37 +28,35 @@ fn frame_size(rest: &[u8]) -> Option<usize>
     Some(size)
 }
 
+/// Whether the file begins as a journal does.
 fn has_magic(bytes: &[u8]) -> bool
-    ensures { result ≡ true → (take 8 bytes.now ≡ magic) × (8 ≤ length bytes.now) }
+    requires { 9 < length bytes.now }
+    ensures { result ≡ bytes_eq (take 8 bytes.now) magic }
 {
-    let [77, 74, 83, 80, 79, 79, 76, 49, ..] = bytes else {
-        return false;
-    };
-    true
+    let head = &bytes[..8];
+    head == b"MJSPOOL1".as_slice()
 }
 
 /// Reads the frames up to the closed gate.
 pub fn walk(bytes: &[u8]) -> Result<Place, LogFault>
-    requires { length bytes.now < 2 ^ 63 }
+    requires small { length bytes.now < 2 ^ 63 }
+    requires long { 9 < length bytes.now }
     ensures found { IfOk result (λ p. IsWalked p.count p.end bytes.now) }
     ensures small { IfOk result (λ p. (p.count ≤ p.end) × (p.end < length bytes.now)) }
-    ensures fault { IfErr result (λ e. (n : ℕ) → e ≡ LogFault.DiskFault n → ⊥) }
+    ensures fault { IfErr result (λ e. (Refuses e (payloads bytes.now)) × ((n : ℕ) → e ≡ LogFault.DiskFault n → ⊥)) }
 {
     if !has_magic(bytes) {
         return Err(LogFault::NotAJournal);
     }
     let mut place = Place { count: 0, end: 8 };
-    while (place.end as usize) < bytes.len() {
-        if bytes[place.end as usize] == 0 {
-            return Ok(place);
-        }
+    while bytes[place.end as usize] != 0 {
         let Some(size) = frame_size(&bytes[place.end as usize + 1..]) else {
-            break;
+            return Err(LogFault::Damaged {
+                number: place.count,
+            });
         };
         place.count += 1;
         place.end += 5 + size as u64;
     }
-    Err(LogFault::Damaged {
-        number: place.count,
-    })
+    Ok(place)
 }
