@@ -1,0 +1,3 @@
+pub mod Imaging
+pub mod Taping
+pub mod Tearing

@@ -1,0 +1,4 @@
+pub mod Loads
+pub mod Puts
+pub mod Steps
+pub mod Walks
