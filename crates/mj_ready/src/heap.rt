@@ -43,7 +43,7 @@ pub(crate) fn take<L: Ledger>(rows: &mut Rows, steps: &mut Steps<L>) -> Option<P
     ensures pairs { MatchOption result
         ((in_order is_before rows.old.rows ≡ []) × (rows.new ≡ rows.old))
         (λ first. in_order is_before rows.old.rows ≡ first ∷ in_order is_before rows.new.rows) }
-    ensures spare { MatchOption result (rows.new ≡ rows.old) (λ _. rows.new.spare ≡ rows.old.spare + 1) }
+    ensures spare { MatchOption result (rows.new.spare ≡ rows.old.spare) (λ _. rows.new.spare ≡ rows.old.spare + 1) }
     ensures none { rows.old.rows ≡ [] → steps.new ≡ steps.old }
     ensures cost { (k : ℕ) → IsDepth (length rows.old.rows) k → steps.new ≤ steps.old + (3 + 3 * k) }
 {

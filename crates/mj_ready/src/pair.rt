@@ -4,6 +4,8 @@ ghost use Rattle.mj_ready.specs.Due.{is_before};
 /// A moment in milliseconds, and a key.
 pub(crate) type Pair = (u64, u64);
 
+const _: () = prove!(size_of::<Pair>() == 16);
+
 /// Whether the first pair comes before the second one: it is due earlier, or at the same moment with the lesser key.
 pub(crate) fn comes_before(a: Pair, b: Pair) -> bool
     ensures { result ≡ is_before a b }
