@@ -1,13 +1,13 @@
 //! The work list of a mail: the mails that wait, of which the next one stands at the end.
-ghost use Rattle.std.specs.Prelude.{◌≡◌, ◌++◌, true, OnOk};
+ghost use Rattle.std.specs.Prelude.{◌≡◌, ◌++◌, true, IfOk, OnOk};
 ghost use Rattle.std.specs.List.{flat_map};
 ghost use mathlib.Core.List.{reverse};
-ghost use Rattle.mj_mail.specs.Meaning.{tree};
+ghost use Rattle.mj_mail.specs.Meaning.{facts_of, placed, tree};
 ghost use Rattle.mj_mail.specs.Rules.{is_acceptable, step_by};
 ghost use Rattle.mj_report.specs.Facts.{fact_line};
 
 use mj_fields::{Bytes, Items, Memory};
-use mj_mail::{Mail, NewMail, Rules};
+use mj_mail::{Mail, Name, NewMail, Outcome, Rules};
 use mj_report::put_fact_lines;
 use std::alloc::Global;
 
@@ -38,12 +38,54 @@ fn carry<R: Rules>(alloc: Global, out: &mut Bytes, rules: &R, mail: Mail) -> Res
     let mut waiting = Items::new(alloc);
     waiting.push(mail)?;
     while let Some(mail) = waiting.pop() {
-        let replies = rules.replies(alloc, &mail)?;
-        let outcome = rules.step(alloc, &mail, &replies)?;
-        put_fact_lines(alloc, out, &mail.name, outcome.facts.as_slice())?;
-        put_back(&mut waiting, outcome.children)?;
+        let taken = take_step(alloc, out, rules, &mail, &mut waiting);
+        drop(mail);
+        taken?;
     }
     Ok(())
+}
+
+/// Takes a mail through one step: puts the lines of its facts at the end of the text, and its children to those that wait.
+fn take_step<R: Rules>(
+    alloc: Global,
+    out: &mut Bytes,
+    rules: &R,
+    mail: &Mail,
+    waiting: &mut Items<Mail>,
+) -> Result<(), Memory>
+    requires { R.is_sound rules.now mail.now ≡ true }
+    ensures lines { OnOk result (out.new ≡ out.old
+        ++ flat_map fact_line (facts_of (step_by R.is_sound R.replies_to R.outcome_of rules.now) mail.now)) }
+    ensures waiting { OnOk result (waiting.new ≡ waiting.old
+        ++ reverse (step_by R.is_sound R.replies_to R.outcome_of rules.now mail.now).children) }
+{
+    let outcome = outcome_of(alloc, rules, mail)?;
+    put_outcome(alloc, out, &mail.name, outcome, waiting)
+}
+
+/// What one step makes of a mail.
+fn outcome_of<R: Rules>(alloc: Global, rules: &R, mail: &Mail) -> Result<Outcome, Memory>
+    requires { R.is_sound rules.now mail.now ≡ true }
+    ensures { IfOk result (λ outcome. outcome ≡ step_by R.is_sound R.replies_to R.outcome_of rules.now mail.now) }
+{
+    let replies = rules.replies(alloc, mail)?;
+    let outcome = rules.step(alloc, mail, &replies)?;
+    Ok(outcome)
+}
+
+/// Puts the lines of the facts about the mail of this name at the end of the text, and its children to those that wait.
+fn put_outcome(
+    alloc: Global,
+    out: &mut Bytes,
+    name: &Name,
+    outcome: Outcome,
+    waiting: &mut Items<Mail>,
+) -> Result<(), Memory>
+    ensures lines { OnOk result (out.new ≡ out.old ++ flat_map fact_line (placed name.now outcome.facts)) }
+    ensures waiting { OnOk result (waiting.new ≡ waiting.old ++ reverse outcome.children) }
+{
+    put_fact_lines(alloc, out, name, outcome.facts.as_slice())?;
+    put_back(waiting, outcome.children)
 }
 
 /// Puts the mails at the end of those that wait, the first of them last.
