@@ -1,7 +1,7 @@
 use mj_fields::{Bytes, Items, Memory};
 use mj_io::{
-    Failed, Files, FilesError, FolderFiles, MemoryFile, MemoryFiles, MemorySink, OutSink, Sink,
-    SureFiles, SureSink, are_files,
+    Failed, Files, FilesError, FolderFiles, LogWire, MemoryFile, MemoryFiles, MemorySink,
+    MemoryWire, OutSink, Sink, SureFiles, SureSink, SureWire, Wire, are_files,
 };
 use std::alloc::Global;
 use std::fs;
@@ -274,4 +274,31 @@ fn standard_output_takes_a_line(rt: HostRuntime) {
     let mut sink = OutSink::make(rt);
     assert_eq!(rt; sink.write(b"one line\n"), Ok(()));
     assert_eq!(rt; sink.write(b""), Ok(()));
+}
+
+#[test]
+fn wires_take_lines(rt: HostRuntime) -> Result<(), Fail> {
+    let alloc = rt.alloc();
+    let mut wire = MemoryWire::make(alloc, numbers(alloc, &[2])?);
+    assert_eq!(rt; wire.present(b"one"), Ok(()));
+    assert_eq!(rt; wire.present(b"two"), Err(Failed));
+    assert_eq!(rt; wire.present(b"three"), Ok(()));
+    let mut lines = Bytes::new(alloc);
+    for line in wire.lines().as_slice() {
+        lines.extend(line.as_slice())?;
+        lines.push(b'\n')?;
+    }
+    assert_eq!(rt; lines.as_slice(), b"one\nthree\n".as_slice());
+    assert_eq!(rt; SureWire.present(b"one"), Ok(()));
+
+    let mut log = LogWire::make(rt, 7);
+    assert_eq!(rt; log.present(b"one"), Ok(()));
+    assert_eq!(rt; log.present(b""), Ok(()));
+    let mut other = LogWire::make(rt, 7);
+    assert_eq!(rt; other.present(b"three"), Ok(()));
+    assert_eq!(rt;
+        fs::read(&rt, "var/wire-7.log")?.as_slice(),
+        b"one\n\nthree\n".as_slice()
+    );
+    Ok(())
 }
