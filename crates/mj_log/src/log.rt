@@ -13,6 +13,8 @@ use mj_disk::Disk;
 use std::alloc::{AllocError, Global};
 use std::marker::Model;
 
+/// A list of payloads on a disk. It holds the disk, how many there are, the place of the closing gate, the greatest length that
+/// the file may reach, and, once a device call has failed in an addition, the disk's count of faults then.
 #[derive(Drop)]
 pub struct Log<D: Disk> {
     alloc: Global,
