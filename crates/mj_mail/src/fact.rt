@@ -1,8 +1,9 @@
 ghost use Rattle.std.specs.Prelude.{◌≡◌, ◌<◌, ◌^◌, length, IfOk};
+ghost use Rattle.mj_mail.specs.declared.fact.Fact.TheVariants.{Deposit, FellOff, Retry, Sent};
 ghost use Rattle.mj_mail.specs.Outcome.{nothing, one_child, one_fact, numbered};
 
 use crate::number::number_children;
-use crate::{Body, Mail, Reply, copy_sender};
+use crate::{Body, Mail, Reply, copy_envelope, copy_message};
 use mj_address::{Address, Domain, Recipients};
 use mj_fields::{Bytes, Items, Memory};
 use mj_head::Head;
@@ -71,6 +72,27 @@ pub struct Outcome {
 }
 
 impl Fact {
+    /// What was put into a repository: an equal envelope and an equal message.
+    pub fn deposit(
+        alloc: Global,
+        repository: &Bytes,
+        envelope: (&Option<Address>, &Recipients),
+        message: (&Head, &Body),
+    ) -> Result<Fact, Memory>
+        ensures { IfOk result (λ fact. fact ≡ Deposit repository.now envelope.entry.0.now envelope.entry.1.now message.entry.0.now message.entry.1.now) }
+    {
+        let repository = repository.copy(alloc)?;
+        let (sender, recipients) = copy_envelope(alloc, envelope.0, envelope.1)?;
+        let (head, body) = copy_message(alloc, message.0, message.1)?;
+        Ok(Fact::Deposit {
+            repository,
+            sender,
+            recipients,
+            head,
+            body,
+        })
+    }
+
     /// An equal value with room of its own.
     pub fn copy(&self, alloc: Global) -> Result<Fact, Memory>
         ensures { IfOk result (λ fact. fact ≡ self.now) }
@@ -82,33 +104,18 @@ impl Fact {
                 recipients,
                 head,
                 body,
-            } => Ok(Fact::Deposit {
-                repository: repository.copy(alloc)?,
-                sender: copy_sender(alloc, sender)?,
-                recipients: recipients.copy(alloc)?,
-                head: head.copy(alloc)?,
-                body: body.copy(alloc)?,
-            }),
+            } => Fact::deposit(alloc, repository, (sender, recipients), (head, body)),
             Fact::Sent {
                 host,
                 recipient,
                 reply,
-            } => Ok(Fact::Sent {
-                host: host.copy(alloc)?,
-                recipient: recipient.copy(alloc)?,
-                reply: reply.copy(alloc)?,
-            }),
+            } => sent(alloc, host, recipient, reply),
             Fact::Retry {
                 host,
                 recipients,
                 attempt,
                 due,
-            } => Ok(Fact::Retry {
-                host: host.copy(alloc)?,
-                recipients: recipients.copy(alloc)?,
-                attempt: *attempt,
-                due: *due,
-            }),
+            } => retry(alloc, host, recipients, *attempt, *due),
             Fact::Bounce { recipients } => Ok(Fact::Bounce {
                 recipients: recipients.copy(alloc)?,
             }),
@@ -119,16 +126,56 @@ impl Fact {
             Fact::FellOff {
                 processor,
                 recipients,
-            } => Ok(Fact::FellOff {
-                processor: processor.copy(alloc)?,
-                recipients: recipients.copy(alloc)?,
-            }),
+            } => fell_off(alloc, processor, recipients),
             Fact::Looped { recipients } => Ok(Fact::Looped {
                 recipients: recipients.copy(alloc)?,
             }),
             Fact::Overrun => Ok(Fact::Overrun),
         }
     }
+}
+
+fn sent(alloc: Global, host: &Domain, recipient: &Address, reply: &Reply) -> Result<Fact, Memory>
+    ensures { IfOk result (λ fact. fact ≡ Sent host.now recipient.now reply.now) }
+{
+    let host = host.copy(alloc)?;
+    let recipient = recipient.copy(alloc)?;
+    let reply = reply.copy(alloc)?;
+    Ok(Fact::Sent {
+        host,
+        recipient,
+        reply,
+    })
+}
+
+fn retry(
+    alloc: Global,
+    host: &Domain,
+    recipients: &Recipients,
+    attempt: u32,
+    due: u64,
+) -> Result<Fact, Memory>
+    ensures { IfOk result (λ fact. fact ≡ Retry host.now recipients.now attempt due) }
+{
+    let host = host.copy(alloc)?;
+    let recipients = recipients.copy(alloc)?;
+    Ok(Fact::Retry {
+        host,
+        recipients,
+        attempt,
+        due,
+    })
+}
+
+fn fell_off(alloc: Global, processor: &Bytes, recipients: &Recipients) -> Result<Fact, Memory>
+    ensures { IfOk result (λ fact. fact ≡ FellOff processor.now recipients.now) }
+{
+    let processor = processor.copy(alloc)?;
+    let recipients = recipients.copy(alloc)?;
+    Ok(Fact::FellOff {
+        processor,
+        recipients,
+    })
 }
 
 impl Outcome {

@@ -122,18 +122,31 @@ impl Mail {
     pub fn restrict(&self, alloc: Global, recipients: Recipients) -> Result<Mail, Memory>
         ensures { IfOk result (λ mail. mail ≡ restrict self.now recipients) }
     {
+        let (name, sender) = copy_origin(alloc, &self.name, &self.sender)?;
+        let (attributes, stage, error) = self.copy_standing(alloc)?;
+        let (head, body) = copy_message(alloc, &self.head, &self.body)?;
         Ok(Mail {
-            name: self.name.copy(alloc)?,
-            sender: copy_sender(alloc, &self.sender)?,
+            name,
+            sender,
             recipients,
-            attributes: self.attributes.copy(alloc)?,
-            stage: self.stage.copy(alloc)?,
-            error: self.error.copy(alloc)?,
-            head: self.head.copy(alloc)?,
-            body: self.body.copy(alloc)?,
+            attributes,
+            stage,
+            error,
+            head,
+            body,
             hops: self.hops,
             due: self.due,
         })
+    }
+
+    /// Where it stands, and what it has gathered on its way there.
+    fn copy_standing(&self, alloc: Global) -> Result<(Attributes, Stage, Bytes), Memory>
+        ensures { IfOk result (λ copied. copied ≡ (self.now.attributes, self.now.stage, self.now.error)) }
+    {
+        let attributes = self.attributes.copy(alloc)?;
+        let stage = self.stage.copy(alloc)?;
+        let error = self.error.copy(alloc)?;
+        Ok((attributes, stage, error))
     }
 
     /// An equal value with room of its own.
@@ -152,14 +165,17 @@ impl NewMail {
         ensures { IfOk result (λ mail. mail ≡ first start number self.now) }
     {
         let length = self.body.len() as u32;
+        let (sender, recipients) = copy_envelope(alloc, &self.sender, &self.recipients)?;
+        let stage = Stage::Process(Bytes::from_slice(alloc, b"root")?);
+        let head = self.head.copy(alloc)?;
         Ok(Mail {
             name: Name::first(alloc, number),
-            sender: copy_sender(alloc, &self.sender)?,
-            recipients: self.recipients.copy(alloc)?,
+            sender,
+            recipients,
             attributes: Attributes::new(alloc),
-            stage: Stage::Process(Bytes::from_slice(alloc, b"root")?),
+            stage,
             error: Bytes::new(alloc),
-            head: self.head.copy(alloc)?,
+            head,
             body: Body::Original { number, length },
             hops: 0,
             due: start,
@@ -170,13 +186,51 @@ impl NewMail {
     pub fn copy(&self, alloc: Global) -> Result<NewMail, Memory>
         ensures { IfOk result (λ mail. mail ≡ self.now) }
     {
+        let (sender, recipients) = copy_envelope(alloc, &self.sender, &self.recipients)?;
+        let head = self.head.copy(alloc)?;
+        let body = self.body.copy(alloc)?;
         Ok(NewMail {
-            sender: copy_sender(alloc, &self.sender)?,
-            recipients: self.recipients.copy(alloc)?,
-            head: self.head.copy(alloc)?,
-            body: self.body.copy(alloc)?,
+            sender,
+            recipients,
+            head,
+            body,
         })
     }
+}
+
+/// The name of a mail and its sender.
+fn copy_origin(
+    alloc: Global,
+    name: &Name,
+    sender: &Option<Address>,
+) -> Result<(Name, Option<Address>), Memory>
+    ensures { IfOk result (λ copied. copied ≡ (name.now, sender.now)) }
+{
+    let name = name.copy(alloc)?;
+    let sender = copy_sender(alloc, sender)?;
+    Ok((name, sender))
+}
+
+/// An equal envelope: a sender and recipients.
+pub fn copy_envelope(
+    alloc: Global,
+    sender: &Option<Address>,
+    recipients: &Recipients,
+) -> Result<(Option<Address>, Recipients), Memory>
+    ensures { IfOk result (λ copied. copied ≡ (sender.now, recipients.now)) }
+{
+    let sender = copy_sender(alloc, sender)?;
+    let recipients = recipients.copy(alloc)?;
+    Ok((sender, recipients))
+}
+
+/// An equal message: a head and a body.
+pub fn copy_message(alloc: Global, head: &Head, body: &Body) -> Result<(Head, Body), Memory>
+    ensures { IfOk result (λ copied. copied ≡ (head.now, body.now)) }
+{
+    let head = head.copy(alloc)?;
+    let body = body.copy(alloc)?;
+    Ok((head, body))
 }
 
 /// An equal sender, or none where there is none.

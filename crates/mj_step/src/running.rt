@@ -7,7 +7,7 @@ ghost use Rattle.mj_container.specs.Running.{drafts, run as run_of, run_in as ru
 ghost use Rattle.mj_container.specs.Serving.{leave as leave_of, sent_to as sent_to_of, served};
 
 use mj_fields::{Bytes, Memory};
-use mj_mail::{Fact, Mail, Outcome, Stage, Why, copy_sender};
+use mj_mail::{Fact, Mail, Outcome, Stage, Why};
 use mj_plan::{GHOST, MailetKind, Plan, Processor};
 use std::alloc::Global;
 
@@ -112,14 +112,11 @@ fn deposit(alloc: Global, path: &Bytes, mail: &Mail) -> Result<Outcome, Memory>
         ≡ one_fact (Deposit path.now mail.now.sender mail.now.recipients mail.now.head mail.now.body)) }
     ensures few { IfOk result (λ outcome. length outcome.children ≤ 1) }
 {
-    Outcome::one_fact(
+    let fact = Fact::deposit(
         alloc,
-        Fact::Deposit {
-            repository: path.copy(alloc)?,
-            sender: copy_sender(alloc, &mail.sender)?,
-            recipients: mail.recipients.copy(alloc)?,
-            head: mail.head.copy(alloc)?,
-            body: mail.body.copy(alloc)?,
-        },
-    )
+        path,
+        (&mail.sender, &mail.recipients),
+        (&mail.head, &mail.body),
+    )?;
+    Outcome::one_fact(alloc, fact)
 }
