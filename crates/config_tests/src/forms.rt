@@ -14,47 +14,60 @@ fn of_length(alloc: Global, count: usize) -> Result<Vec<u8>, Fail> {
     Ok(text)
 }
 
+/// Which of the forms a text has: those of names of processors, lines, names and values of attributes, repositories and
+/// reply codes.
+fn forms_of(text: &[u8]) -> [bool; 6] {
+    [
+        is_processor_name(text),
+        is_line(text),
+        is_attribute_name(text),
+        is_attribute_value(text),
+        is_repository(text),
+        is_reply_code(text),
+    ]
+}
+
+/// The forms that a text of so many letters has.
+fn forms_of_length(alloc: Global, count: usize) -> Result<[bool; 6], Fail> {
+    Ok(forms_of(&of_length(alloc, count)?))
+}
+
+const TEXTS: [(&str, [bool; 6]); 11] = [
+    ("", [false, false, false, true, false, false]),
+    ("root", [true, true, true, true, true, false]),
+    ("a-b_c.d", [true, true, true, true, true, false]),
+    ("a b", [false, true, false, true, false, false]),
+    ("a,b", [false, true, false, true, true, false]),
+    ("a;b", [false, true, false, true, true, false]),
+    ("file://var/mail", [false, true, true, true, true, false]),
+    ("550", [true, true, true, true, true, true]),
+    ("5501", [true, true, true, true, true, false]),
+    ("a\tb", [false, false, false, false, false, false]),
+    ("gr\u{fc}n", [false, false, false, false, false, false]),
+];
+
 #[test]
 fn forms_of_texts(rt: HostRuntime) {
-    let rows = [
-        ("", [false, false, false, true, false, false]),
-        ("root", [true, true, true, true, true, false]),
-        ("a-b_c.d", [true, true, true, true, true, false]),
-        ("a b", [false, true, false, true, false, false]),
-        ("a,b", [false, true, false, true, true, false]),
-        ("a;b", [false, true, false, true, true, false]),
-        ("file://var/mail", [false, true, true, true, true, false]),
-        ("550", [true, true, true, true, true, true]),
-        ("5501", [true, true, true, true, true, false]),
-        ("a\tb", [false, false, false, false, false, false]),
-        ("gr\u{fc}n", [false, false, false, false, false, false]),
-    ];
-    for (text, want) in rows {
-        let text = text.as_bytes();
-        let found = [
-            is_processor_name(text),
-            is_line(text),
-            is_attribute_name(text),
-            is_attribute_value(text),
-            is_repository(text),
-            is_reply_code(text),
-        ];
-        assert!(rt; found == want, "at {text:?}");
+    for (text, want) in TEXTS {
+        assert!(rt; forms_of(text.as_bytes()) == want, "at {text:?}");
     }
 }
 
+const LENGTHS: [(usize, [bool; 6]); 8] = [
+    (64, [true, true, true, true, true, false]),
+    (65, [false, true, true, true, true, false]),
+    (255, [false, true, true, true, true, false]),
+    (256, [false, true, false, true, false, false]),
+    (512, [false, true, false, true, false, false]),
+    (513, [false, false, false, true, false, false]),
+    (4_096, [false, false, false, true, false, false]),
+    (4_097, [false, false, false, false, false, false]),
+];
+
 #[test]
 fn lengths_of_texts(rt: HostRuntime) -> Result<(), Fail> {
-    let alloc = rt.alloc();
-    assert!(rt; is_processor_name(&of_length(alloc, 64)?));
-    assert!(rt; !is_processor_name(&of_length(alloc, 65)?));
-    assert!(rt; is_line(&of_length(alloc, 512)?));
-    assert!(rt; !is_line(&of_length(alloc, 513)?));
-    assert!(rt; is_attribute_name(&of_length(alloc, 255)?));
-    assert!(rt; !is_attribute_name(&of_length(alloc, 256)?));
-    assert!(rt; is_attribute_value(&of_length(alloc, 4_096)?));
-    assert!(rt; !is_attribute_value(&of_length(alloc, 4_097)?));
-    assert!(rt; is_repository(&of_length(alloc, 255)?));
-    assert!(rt; !is_repository(&of_length(alloc, 256)?));
+    for (count, want) in LENGTHS {
+        assert!(rt; forms_of_length(rt.alloc(), count)? == want, "at {count}");
+    }
     Ok(())
 }

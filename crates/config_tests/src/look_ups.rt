@@ -1,23 +1,53 @@
 //! Look-ups in a plan.
 use crate::texts::{ALL, ERROR, ROOT, SPOOL, STEP, joined};
 use mj_config::read_plan;
+use mj_plan::Plan;
+use std::alloc::Global;
 use std::test::Fail;
+
+/// A step's remote deliveries, with one retry and with three.
+const OUT: &str = "class = \"RemoteDelivery\"\noutgoing = \"out\"\nmaxRetries = 1\n";
+
+const LATE: &str = "class = \"RemoteDelivery\"\noutgoing = \"late\"\nmaxRetries = 3\n";
+
+/// A plan whose processors `root` and `error` deliver by `out` and by `late`.
+fn delivering_plan(alloc: Global) -> Result<Plan, Fail> {
+    let text = joined(
+        alloc,
+        &[SPOOL, ROOT, STEP, ALL, OUT, ERROR, STEP, ALL, LATE],
+    )?;
+    Ok(read_plan(alloc, &text).ok().ok_or("no plan")?)
+}
+
+/// Whether a processor of this name is found.
+fn finds(plan: &Plan, name: &[u8]) -> bool {
+    match plan.processor(name) {
+        Some(processor) => processor.name.as_slice() == name,
+        None => false,
+    }
+}
+
+/// The number of retries of the remote delivery of this name.
+fn retries(plan: &Plan, name: &[u8]) -> Option<usize> {
+    plan.schedule(name).map(|schedule| schedule.len())
+}
 
 #[test]
 fn look_ups(rt: HostRuntime) -> Result<(), Fail> {
-    let alloc = rt.alloc();
-    let out = "class = \"RemoteDelivery\"\noutgoing = \"out\"\nmaxRetries = 1\n";
-    let late = "class = \"RemoteDelivery\"\noutgoing = \"late\"\nmaxRetries = 3\n";
-    let text = joined(
-        alloc,
-        &[SPOOL, ROOT, STEP, ALL, out, ERROR, STEP, ALL, late],
-    )?;
-    let plan = read_plan(alloc, &text).ok().ok_or("no plan")?;
-    let error = plan.processor(b"error").ok_or("no error")?;
-    assert_eq!(rt; error.name.as_slice(), b"error".as_slice());
-    assert!(rt; plan.processor(b"Error").is_none());
-    let late = plan.schedule(b"late").ok_or("no late")?;
-    assert_eq!(rt; late.len(), 3);
-    assert!(rt; plan.schedule(b"lat").is_none());
+    let plan = delivering_plan(rt.alloc())?;
+    let rows = [
+        ("error", (true, None)),
+        ("Error", (false, None)),
+        ("out", (false, Some(1))),
+        ("late", (false, Some(3))),
+        ("lat", (false, None)),
+    ];
+    for (name, want) in rows {
+        let found = (
+            finds(&plan, name.as_bytes()),
+            retries(&plan, name.as_bytes()),
+        );
+        assert!(rt; found == want, "at {name:?}");
+    }
     Ok(())
 }

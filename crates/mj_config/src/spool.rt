@@ -1,8 +1,8 @@
 //! The table `[spool]`.
-ghost use Rattle.std.specs.Prelude.{◌≡◌, option_map};
+ghost use Rattle.std.specs.Prelude.{◌≡◌, codes, option_map};
 ghost use Rattle.toml.specs.View.{view, table_view};
-ghost use Rattle.mj_config_walk.specs.Values.{Gives, address, domain, domain_value, local_part, number, optional};
-ghost use Rattle.mj_config_walk.specs.Walk.{address_value, each_value, moment_value, spool_of};
+ghost use Rattle.mj_config_walk.specs.Values.{Gives, domain, domain_value, local_part, number, optional};
+ghost use Rattle.mj_config_walk.specs.Walk.{address_value, bounds_in, each_value, locals_in, moment_value, needed, owner_in, spool_of};
 
 use mj_address::{Address, Domain};
 use mj_config_values::{
@@ -18,12 +18,9 @@ use toml::{Table, Value};
 pub(crate) fn read_spool(alloc: Global, table: &Table) -> Result<Spool, Refusal>
     ensures { Gives result (spool_of (table_view table.now)) }
 {
-    let host_name = domain_value(alloc, required(table, "host_name")?)?;
-    let postmaster = address_value(alloc, required(table, "postmaster")?)?;
-    let local_hosts = domains_value(alloc, required(table, "local_hosts")?)?;
-    let local_users = local_parts_value(alloc, required(table, "local_users")?)?;
-    let start = moment_value(required(table, "start")?)?;
-    let max_hops = max_hops(value_at(table, "max_hops"))?;
+    let (host_name, postmaster) = owner_in(alloc, table)?;
+    let (local_hosts, local_users) = locals_in(alloc, table)?;
+    let (start, max_hops) = bounds_in(table)?;
     Ok(Spool {
         host_name,
         postmaster,
@@ -34,28 +31,61 @@ pub(crate) fn read_spool(alloc: Global, table: &Table) -> Result<Spool, Refusal>
     })
 }
 
-fn address_value(alloc: Global, value: &Value) -> Result<Address, Refusal>
-    ensures { Gives result (address_value (view value.now)) }
+/// The host and the postmaster.
+fn owner_in(alloc: Global, table: &Table) -> Result<(Domain, Address), Refusal>
+    ensures { Gives result (owner_in (table_view table.now)) }
 {
-    address(alloc, text(value)?)
+    let host_name = host_name_in(alloc, table)?;
+    let postmaster = postmaster_in(alloc, table)?;
+    Ok((host_name, postmaster))
 }
 
-fn domains_value(alloc: Global, value: &Value) -> Result<Items<Domain>, Refusal>
-    ensures { Gives result (each_value domain (view value.now)) }
+/// The hosts and the users that mails are delivered to here.
+fn locals_in(alloc: Global, table: &Table) -> Result<(Items<Domain>, Items<Bytes>), Refusal>
+    ensures { Gives result (locals_in (table_view table.now)) }
 {
-    domains_in(alloc, texts(value)?)
+    let local_hosts = local_hosts_in(alloc, table)?;
+    let local_users = local_users_in(alloc, table)?;
+    Ok((local_hosts, local_users))
 }
 
-fn local_parts_value(alloc: Global, value: &Value) -> Result<Items<Bytes>, Refusal>
-    ensures { Gives result (each_value local_part (view value.now)) }
+/// The moment at which the clock starts, and the limit of hops.
+fn bounds_in(table: &Table) -> Result<(u64, u32), Refusal>
+    ensures { Gives result (bounds_in (table_view table.now)) }
 {
-    local_parts_in(alloc, texts(value)?)
+    let start = start_in(table)?;
+    let max_hops = max_hops(value_at(table, "max_hops"))?;
+    Ok((start, max_hops))
 }
 
-fn moment_value(value: &Value) -> Result<u64, Refusal>
-    ensures { Gives result (moment_value (view value.now)) }
+fn host_name_in(alloc: Global, table: &Table) -> Result<Domain, Refusal>
+    ensures { Gives result (needed (codes "host_name") domain_value (table_view table.now)) }
 {
-    moment(text(value)?)
+    domain_value(alloc, required(table, "host_name")?)
+}
+
+fn postmaster_in(alloc: Global, table: &Table) -> Result<Address, Refusal>
+    ensures { Gives result (needed (codes "postmaster") address_value (table_view table.now)) }
+{
+    address(alloc, text(required(table, "postmaster")?)?)
+}
+
+fn local_hosts_in(alloc: Global, table: &Table) -> Result<Items<Domain>, Refusal>
+    ensures { Gives result (needed (codes "local_hosts") (each_value domain) (table_view table.now)) }
+{
+    domains_in(alloc, texts(required(table, "local_hosts")?)?)
+}
+
+fn local_users_in(alloc: Global, table: &Table) -> Result<Items<Bytes>, Refusal>
+    ensures { Gives result (needed (codes "local_users") (each_value local_part) (table_view table.now)) }
+{
+    local_parts_in(alloc, texts(required(table, "local_users")?)?)
+}
+
+fn start_in(table: &Table) -> Result<u64, Refusal>
+    ensures { Gives result (needed (codes "start") moment_value (table_view table.now)) }
+{
+    moment(text(required(table, "start")?)?)
 }
 
 /// At so many hops a mail has looped: 1 to 1,000, and 100 where none is named.

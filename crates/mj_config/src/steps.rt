@@ -3,7 +3,7 @@ ghost use Rattle.std.specs.Prelude.{◌≡◌, ◌≤◌, [], ◌∷◌, ◌++�
 ghost use Rattle.toml.specs.View.{view, table_view};
 ghost use Rattle.mj_config_walk.specs.Values.{Gives, optional, target};
 ghost use Rattle.mj_config_walk.specs.Deliveries.{IsNew, deliveries_of};
-ghost use Rattle.mj_config_walk.specs.Walk.{Answers, deliveries, located, steps_from, default_mailet_route, default_match_route, mailet_route, mailet_route_of, match_route, match_route_of, step_of};
+ghost use Rattle.mj_config_walk.specs.Walk.{Answers, deliveries, located, steps_from, default_mailet_route, default_match_route, mailet_in, mailet_route, mailet_route_of, match_route, match_route_of, matcher_in, routes_in, step_of};
 
 use crate::fault::fault_at;
 use mj_config_mailets::mailet_of;
@@ -11,7 +11,7 @@ use mj_config_matchers::matcher;
 use mj_config_values::{Names, is, required, target, text, value_at};
 use mj_config_walk::{PlanFault, PlanKind, Refusal};
 use mj_fields::{Bytes, Items, Memory};
-use mj_plan::{MailetKind, MailetRoute, MatchRoute, Step};
+use mj_plan::{MailetKind, MailetRoute, MatchExpr, MatchRoute, Step};
 use std::alloc::Global;
 use toml::{Table, Value};
 
@@ -73,17 +73,49 @@ fn step(alloc: Global, names: &Names, taken: &Names, table: &Table) -> Result<St
     ensures exact { Gives result (step_of names.now taken.now (table_view table.now)) }
     ensures new { IfOk result (λ step. IsNew taken.now step.mailet) }
 {
-    let matcher = matcher(alloc, required(table, "match")?)?;
-    let class = text(required(table, "class")?)?;
-    let mailet = mailet_of(alloc, names, taken, class, table)?;
-    let on_match = match_route_or_error(alloc, names, value_at(table, "onMatchException"))?;
-    let on_mailet = mailet_route_or_error(alloc, names, value_at(table, "onMailetException"))?;
+    let matcher = matcher_in(alloc, table)?;
+    let mailet = mailet_in(alloc, names, taken, table)?;
+    let (on_match, on_mailet) = routes_in(alloc, names, table)?;
     Ok(Step {
         matcher,
         on_match,
         mailet,
         on_mailet,
     })
+}
+
+/// What mails a step takes.
+fn matcher_in(alloc: Global, table: &Table) -> Result<MatchExpr, Refusal>
+    ensures { Gives result (matcher_in (table_view table.now)) }
+{
+    matcher(alloc, required(table, "match")?)
+}
+
+/// What a step does with them, where these names of remote deliveries are taken.
+fn mailet_in(
+    alloc: Global,
+    names: &Names,
+    taken: &Names,
+    table: &Table,
+) -> Result<MailetKind, Refusal>
+    ensures exact { Gives result (mailet_in names.now taken.now (table_view table.now)) }
+    ensures new { IfOk result (λ mailet. IsNew taken.now mailet) }
+{
+    let class = text(required(table, "class")?)?;
+    mailet_of(alloc, names, taken, class, table)
+}
+
+/// Where a mail goes where the matcher or the mailet fails.
+fn routes_in(
+    alloc: Global,
+    names: &Names,
+    table: &Table,
+) -> Result<(MatchRoute, MailetRoute), Refusal>
+    ensures { Gives result (routes_in names.now (table_view table.now)) }
+{
+    let on_match = match_route_or_error(alloc, names, value_at(table, "onMatchException"))?;
+    let on_mailet = mailet_route_or_error(alloc, names, value_at(table, "onMailetException"))?;
+    Ok((on_match, on_mailet))
 }
 
 fn match_route_or_error(

@@ -14,8 +14,8 @@ use Rattle.mj_plan.specs.Sound.{is_between, has_items, is_mapping}
 use Rattle.mj_config_walk.specs.declared.fault.PlanKind.{PlanKind}
 use Rattle.mj_config_walk.specs.declared.fault.PlanKind.TheVariants.{Missing, BadArgument, BadMoment, TooMany}
 use Rattle.mj_config_walk.specs.declared.spool.Spool.{Spool}
-use Rattle.mj_config_walk.specs.Values.{required, text, texts, number, whole, in_moment, address, domain, domain_value, local_part, each, each_text, tables}
-use Rattle.mj_config_walk.specs.Walk.{table_or_none, address_value, moment_value, each_value, spool_of, spool_in, tables_or_none, addresses_row, error_row, host_row, host_row_or_none, row_with, mapping_of, rewrite_of, targets}
+use Rattle.mj_config_walk.specs.Values.{required, text, texts, number, whole, in_moment, address, domain, each, each_text, tables}
+use Rattle.mj_config_walk.specs.Walk.{table_or_none, moment_value, owner_in, locals_in, bounds_in, spool_of, spool_in, tables_or_none, addresses_row, error_row, host_row, host_row_or_none, row_with, mapping_of, rewrite_of, targets}
 use Rattle.mj_config_sound.proofs.Holds.{Holds, ok, err, bind, skip, checks, form_of, optional_of}
 
 -- ---- [spool]
@@ -35,21 +35,24 @@ in_moment_of (Err fault) h = err BadMoment
 moment_value_of : (value : Data) → Holds (λ m. m < 4_133_980_800_000) (moment_value value)
 moment_value_of value = skip (text value) (λ s. in_moment_of (moment_of s) (λ m e. moment_small s m e))
 
+-- the two of them that a reading of `[spool]` gives
+record AreBounds (bounds : ℕ × ℕ) : Type 0 where
+  start : bounds.0 < 4_133_980_800_000
+  max_hops : is_between 1 1_000 bounds.1 ≡ true
+
+bounds_in_of : (members : Members) → Holds AreBounds (bounds_in members)
+bounds_in_of members =
+    bind (skip (required (codes "start") members) moment_value_of) (λ start h.
+    bind (optional_of {Q = λ n. is_between 1 1_000 n ≡ true} 100 (number 1 1_000) (get_member (codes "max_hops") members) refl (number_of 1 1_000)) (λ max_hops k.
+    ok (start, max_hops) (record { start = h; max_hops = k })))
+
 spool_of_of : (members : Members) → Holds IsSpool (spool_of members)
 spool_of_of members =
-    skip (required (codes "host_name") members) (λ value.
-    skip (domain_value value) (λ host_name.
-    skip (required (codes "postmaster") members) (λ value.
-    skip (address_value value) (λ postmaster.
-    skip (required (codes "local_hosts") members) (λ value.
-    skip (each_value domain value) (λ local_hosts.
-    skip (required (codes "local_users") members) (λ value.
-    skip (each_value local_part value) (λ local_users.
-    skip (required (codes "start") members) (λ value.
-    bind (moment_value_of value) (λ start h.
-    bind (optional_of {Q = λ n. is_between 1 1_000 n ≡ true} 100 (number 1 1_000) (get_member (codes "max_hops") members) refl (number_of 1 1_000)) (λ max_hops k.
-    ok (record { host_name = host_name; postmaster = postmaster; local_hosts = local_hosts; local_users = local_users; start = start; max_hops = max_hops })
-    (record { start = h; max_hops = k }))))))))))))
+    skip (owner_in members) (λ owner.
+    skip (locals_in members) (λ served.
+    bind (bounds_in_of members) (λ bounds h.
+    ok (record { host_name = owner.0; postmaster = owner.1; local_hosts = served.0; local_users = served.1; start = bounds.0; max_hops = bounds.1 })
+    (record { start = h.start; max_hops = h.max_hops }))))
 
 pub spool_sound : (value : Option Data) → Holds IsSpool (spool_in value)
 spool_sound value = skip (table_or_none value) spool_of_of

@@ -16,7 +16,7 @@ use Rattle.mj_plan.specs.declared.plan.MatchRoute.TheVariants as on_match
 use Rattle.mj_plan.specs.declared.plan.Step.{Step}
 use Rattle.mj_plan.specs.Sound.{is_match_route, is_mailet_route, is_matcher, is_step, outgoing_of}
 use Rattle.mj_config_walk.specs.Values.{required, text}
-use Rattle.mj_config_walk.specs.Walk.{match_route_of, match_route, mailet_route_of, mailet_route, step_of, deliveries, steps_from}
+use Rattle.mj_config_walk.specs.Walk.{match_route_of, match_route, mailet_route_of, mailet_route, needed, matcher_in, mailet_in, routes_in, step_of, deliveries, steps_from}
 use Rattle.mj_config_sound.proofs.Holds.{Holds, ok, bind, skip, choose, optional_of, located_of, after}
 use Rattle.mj_config_sound.proofs.Fresh.{are_new}
 use Rattle.mj_config_sound.proofs.SoundMatchers.{matcher_of}
@@ -50,24 +50,37 @@ default_match names h = h
 default_mailet : (names : List (List ℕ)) → list_any (bytes_eq (codes "error")) names ≡ true → is_mailet_route names (on_mailet.To (codes "error")) ≡ true
 default_mailet names h = h
 
-formed_step : (names taken : List (List ℕ)) (matches : MatchExpr) (unmatched : MatchRoute) (kind : MailetKind) (undone : MailetRoute)
-    → is_matcher matches ≡ true → is_match_route names unmatched ≡ true → IsNew names taken kind → is_mailet_route names undone ≡ true
-    → IsNewStep names taken (record { matcher = matches; on_match = unmatched; mailet = kind; on_mailet = undone })
-formed_step names taken matches unmatched kind undone a b c d = record { formed = rw (a, b, c.formed, d); new = c.new }
+-- where a mail goes where a step fails is there
+record AreRoutes (names : List (List ℕ)) (routes : MatchRoute × MailetRoute) : Type 0 where
+  on_match : is_match_route names routes.0 ≡ true
+  on_mailet : is_mailet_route names routes.1 ≡ true
+
+formed_step : (names taken : List (List ℕ)) (matches : MatchExpr) (kind : MailetKind) (routes : MatchRoute × MailetRoute)
+    → is_matcher matches ≡ true → IsNew names taken kind → AreRoutes names routes
+    → IsNewStep names taken (record { matcher = matches; on_match = routes.0; mailet = kind; on_mailet = routes.1 })
+formed_step names taken matches kind routes a b c = record { formed = rw (a, c.on_match, b.formed, c.on_mailet); new = b.new }
+
+matcher_in_of : (step : Members) → Holds (λ matches. is_matcher matches ≡ true) (matcher_in step)
+matcher_in_of step = skip (required (codes "match") step) matcher_of
+
+mailet_in_of : (names taken : List (List ℕ)) (step : Members) → members_are_sorted step ≡ true → Holds (IsNew names taken) (mailet_in names taken step)
+mailet_in_of names taken step sorted = skip (needed (codes "class") text step) (λ class. mailet_of_of names taken class step sorted)
 
 module _ (names : List (List ℕ)) (error : list_any (bytes_eq (codes "error")) names ≡ true) where
+  routes_in_of : (step : Members) → Holds (AreRoutes names) (routes_in names step)
+  routes_in_of step =
+      bind (optional_of {Q = λ route. is_match_route names route ≡ true} (on_match.To (codes "error")) (match_route names) (get_member (codes "onMatchException") step)
+      (default_match names error) (λ value. skip (text value) (λ s. match_route_of_of names s))) (λ unmatched a.
+      bind (optional_of {Q = λ route. is_mailet_route names route ≡ true} (on_mailet.To (codes "error")) (mailet_route names) (get_member (codes "onMailetException") step)
+      (default_mailet names error) (λ value. skip (text value) (λ s. mailet_route_of_of names s))) (λ undone b.
+      ok (unmatched, undone) (record { on_match = a; on_mailet = b })))
+
   step_of_of : (taken : List (List ℕ)) (step : Members) → members_are_sorted step ≡ true → Holds (IsNewStep names taken) (step_of names taken step)
   step_of_of taken step sorted =
-      skip (required (codes "match") step) (λ value.
-      bind (matcher_of value) (λ matches a.
-      skip (required (codes "class") step) (λ value.
-      skip (text value) (λ class.
-      bind (mailet_of_of names taken class step sorted) (λ kind c.
-      bind (optional_of {Q = λ route. is_match_route names route ≡ true} (on_match.To (codes "error")) (match_route names) (get_member (codes "onMatchException") step)
-      (default_match names error) (λ value. skip (text value) (λ s. match_route_of_of names s))) (λ unmatched b.
-      bind (optional_of {Q = λ route. is_mailet_route names route ≡ true} (on_mailet.To (codes "error")) (mailet_route names) (get_member (codes "onMailetException") step)
-      (default_mailet names error) (λ value. skip (text value) (λ s. mailet_route_of_of names s))) (λ undone d.
-      ok (record { matcher = matches; on_match = unmatched; mailet = kind; on_mailet = undone }) (formed_step names taken matches unmatched kind undone a b c d))))))))
+      bind (matcher_in_of step) (λ matches a.
+      bind (mailet_in_of names taken step sorted) (λ kind b.
+      bind (routes_in_of step) (λ routes c.
+      ok (record { matcher = matches; on_match = routes.0; mailet = kind; on_mailet = routes.1 }) (formed_step names taken matches kind routes a b c))))
 
   new_more : (taken rest : List (List ℕ)) (name : Option (List ℕ)) → option_map_or (λ s. not (list_any (bytes_eq s) taken)) name true ≡ true
       → are_new (taken ++ cons_option name []) rest ≡ true → are_new taken (cons_option name rest) ≡ true

@@ -5,6 +5,8 @@ use Rattle.std.specs.Str.{bytes_eq, is_utf8}
 use Rattle.mj_terms.specs.Limits.{within}
 use Rattle.toml.specs.Data.{Data, Items, Members, no_members, table, get_member}
 use Rattle.toml.specs.Parse.{parse_document}
+use Rattle.mj_plan.specs.declared.mailet.MailetKind.{MailetKind}
+use Rattle.mj_plan.specs.declared.matcher.MatchExpr.{MatchExpr}
 use Rattle.mj_plan.specs.declared.plan.MailetRoute.{MailetRoute}
 use Rattle.mj_plan.specs.declared.plan.MailetRoute.TheVariants as on_mailet
 use Rattle.mj_plan.specs.declared.plan.Mapping.{Mapping}
@@ -48,20 +50,40 @@ each_value form value = do
   items ← texts value
   each_text form items
 
+-- a key that has to be there, with a value of this form
+abbrev pub needed : {X : Type 0} → List ℕ → (Data → Result X PlanKind) → Members → Result X PlanKind
+needed key form members = do
+  value ← required key members
+  form value
+
+-- who the service is: its host and its postmaster
+abbrev pub owner_in : Members → Result (List ℕ × (List ℕ × List ℕ)) PlanKind
+owner_in members = do
+  host_name ← needed (codes "host_name") domain_value members
+  postmaster ← needed (codes "postmaster") address_value members
+  Ok (host_name, postmaster)
+
+-- whom it delivers to: its hosts and its users
+abbrev pub locals_in : Members → Result (List (List ℕ) × List (List ℕ)) PlanKind
+locals_in members = do
+  local_hosts ← needed (codes "local_hosts") (each_value domain) members
+  local_users ← needed (codes "local_users") (each_value local_part) members
+  Ok (local_hosts, local_users)
+
+-- when its clock starts, and at how many hops a mail has looped
+abbrev pub bounds_in : Members → Result (ℕ × ℕ) PlanKind
+bounds_in members = do
+  start ← needed (codes "start") moment_value members
+  max_hops ← optional 100 (number 1 1_000) (get_member (codes "max_hops") members)
+  Ok (start, max_hops)
+
+-- its keys in this order
 abbrev pub spool_of : Members → Result Spool PlanKind
 spool_of members = do
-  host_name ← required (codes "host_name") members
-  host_name ← domain_value host_name
-  postmaster ← required (codes "postmaster") members
-  postmaster ← address_value postmaster
-  local_hosts ← required (codes "local_hosts") members
-  local_hosts ← each_value domain local_hosts
-  local_users ← required (codes "local_users") members
-  local_users ← each_value local_part local_users
-  start ← required (codes "start") members
-  start ← moment_value start
-  max_hops ← optional 100 (number 1 1_000) (get_member (codes "max_hops") members)
-  Ok (record { host_name = host_name; postmaster = postmaster; local_hosts = local_hosts; local_users = local_users; start = start; max_hops = max_hops })
+  owner ← owner_in members
+  served ← locals_in members
+  bounds ← bounds_in members
+  Ok (record { host_name = owner.0; postmaster = owner.1; local_hosts = served.0; local_users = served.1; start = bounds.0; max_hops = bounds.1 })
 
 -- ---- [[rewrite]]
 
@@ -179,17 +201,31 @@ default_match_route = on_match.To (codes "error")
 abbrev pub default_mailet_route : MailetRoute
 default_mailet_route = on_mailet.To (codes "error")
 
--- a step of a plan with these processors, where these names of remote deliveries are taken
-abbrev pub step_of : List (List ℕ) → List (List ℕ) → Members → Result Step PlanKind
-step_of names taken step = do
-  matcher_value ← required (codes "match") step
-  matches ← matcher matcher_value
-  class ← required (codes "class") step
-  class ← text class
-  mailet ← mailet_of names taken class step
+-- what mails a step takes
+abbrev pub matcher_in : Members → Result MatchExpr PlanKind
+matcher_in step = needed (codes "match") matcher step
+
+-- what it does with them, where these names of remote deliveries are taken
+abbrev pub mailet_in : List (List ℕ) → List (List ℕ) → Members → Result MailetKind PlanKind
+mailet_in names taken step = do
+  class ← needed (codes "class") text step
+  mailet_of names taken class step
+
+-- where they go where one of the two fails
+abbrev pub routes_in : List (List ℕ) → Members → Result (MatchRoute × MailetRoute) PlanKind
+routes_in names step = do
   on_match ← optional default_match_route (match_route names) (get_member (codes "onMatchException") step)
   on_mailet ← optional default_mailet_route (mailet_route names) (get_member (codes "onMailetException") step)
-  Ok (record { matcher = matches; on_match = on_match; mailet = mailet; on_mailet = on_mailet })
+  Ok (on_match, on_mailet)
+
+-- a step of a plan with these processors, where these names of remote deliveries are taken: its matcher, its mailet, and
+-- then its routes
+abbrev pub step_of : List (List ℕ) → List (List ℕ) → Members → Result Step PlanKind
+step_of names taken step = do
+  matches ← matcher_in step
+  mailet ← mailet_in names taken step
+  routes ← routes_in names step
+  Ok (record { matcher = matches; on_match = routes.0; mailet = mailet; on_mailet = routes.1 })
 
 -- ---- Places
 
