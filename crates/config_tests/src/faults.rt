@@ -229,304 +229,218 @@ fn names_of_processors(rt: HostRuntime) -> Result<(), Fail> {
     Ok(())
 }
 
-/// Values of `match`.
-const MATCHERS: [(&str, Option<PlanKind>); 67] = [
-    ("\"All\"", None),
-    ("\"All=\"", Some(PlanKind::BadArgument)),
-    ("\"all\"", Some(PlanKind::UnknownMatcher)),
-    ("\" All\"", Some(PlanKind::UnknownMatcher)),
-    ("\"\"", Some(PlanKind::UnknownMatcher)),
-    ("5", Some(PlanKind::WrongType)),
-    ("[\"All\"]", Some(PlanKind::WrongType)),
-    ("\"RecipientIs\"", Some(PlanKind::BadArgument)),
-    ("\"RecipientIs= \"", Some(PlanKind::BadArgument)),
-    ("\"RecipientIs= a@b.test ,c@d.test\"", None),
-    ("\"RecipientIs=a@b.test,\"", Some(PlanKind::BadAddress)),
-    ("\"RecipientIsLocal\"", None),
-    ("\"HostIs=b.test\"", None),
-    ("\"HostIs=b.test,,d.test\"", Some(PlanKind::BadAddress)),
-    ("\"HostIsLocal=b.test\"", Some(PlanKind::BadArgument)),
-    ("\"UserIs=ann,bob\"", None),
-    ("\"UserIs=ann,,bob\"", Some(PlanKind::BadArgument)),
-    ("\"SenderIs=a@b.test\"", None),
-    ("\"SenderHostIs=-\"", Some(PlanKind::BadAddress)),
-    ("\"SenderIsNull\"", None),
-    ("\"SizeGreaterThan=10\"", None),
-    ("\"SizeGreaterThan=10k\"", None),
-    ("\"SizeGreaterThan=999999999m\"", None),
-    ("\"SizeGreaterThan=10K\"", Some(PlanKind::BadArgument)),
-    ("\"SizeGreaterThan=k\"", Some(PlanKind::BadArgument)),
-    (
-        "\"SizeGreaterThan=1234567890\"",
-        Some(PlanKind::BadArgument),
-    ),
-    ("\"SubjectIs=a=b\"", None),
-    ("\"SubjectStartsWith=\"", Some(PlanKind::BadArgument)),
-    ("\"HasHeader=X-A\"", None),
-    ("\"HasHeader=X-A=\"", None),
-    ("\"HasHeader=X-A= b\"", None),
-    ("\"HasHeader=X A\"", Some(PlanKind::BadArgument)),
-    ("\"HasHeader==b\"", Some(PlanKind::BadArgument)),
-    ("\"HasMailAttribute=a,b\"", Some(PlanKind::BadArgument)),
-    ("\"HasMailAttributeWithValue=a,\"", None),
-    (
-        "\"HasMailAttributeWithValue=a\"",
-        Some(PlanKind::BadArgument),
-    ),
-    ("\"HasMailAttributeWithValue= a , b,c \"", None),
-    ("\"RelayLimit=0\"", Some(PlanKind::BadArgument)),
-    ("\"RelayLimit=0009999\"", None),
-    ("\"RelayLimit=10000\"", Some(PlanKind::BadArgument)),
-    ("\"IsSingleRecipient\"", None),
-    ("\"TooManyRecipients=1\"", None),
-    ("\"TooManyRecipients=-1\"", Some(PlanKind::BadArgument)),
-    ("\"CompareNumericHeaderValue=X-Spam  >=  5\"", None),
-    (
-        "\"CompareNumericHeaderValue=X-Spam == 123456789012345678\"",
-        None,
-    ),
-    (
-        "\"CompareNumericHeaderValue=X-Spam = 1234567890123456789\"",
-        Some(PlanKind::BadArgument),
-    ),
-    (
-        "\"CompareNumericHeaderValue=X-Spam>=5\"",
-        Some(PlanKind::BadArgument),
-    ),
-    (
-        "\"CompareNumericHeaderValue=X-Spam => 5\"",
-        Some(PlanKind::BadArgument),
-    ),
-    (
-        "\"CompareNumericHeaderValue=X-Spam < 5 6\"",
-        Some(PlanKind::BadArgument),
-    ),
-    ("\"IsRemoteDeliveryPermanentError\"", None),
-    ("\"IsRemoteDeliveryTemporaryError\"", None),
-    ("\"RemoteDeliveryFailedWithSMTPCode=550\"", None),
-    (
-        "\"RemoteDeliveryFailedWithSMTPCode=55\"",
-        Some(PlanKind::BadArgument),
-    ),
-    ("\"Fail\"", None),
-    ("{}", Some(PlanKind::BadArgument)),
-    (
-        "{And = [\"All\"], Or = [\"All\"]}",
-        Some(PlanKind::BadArgument),
-    ),
-    ("{And = \"All\"}", Some(PlanKind::WrongType)),
-    ("{And = []}", Some(PlanKind::BadArgument)),
-    ("{And = [\"All\"]}", None),
-    ("{Nand = [\"All\"]}", Some(PlanKind::BadArgument)),
-    ("{Nand = [5]}", Some(PlanKind::WrongType)),
-    ("{Or = [\"Foo\", 5]}", Some(PlanKind::WrongType)),
-    ("{Or = [\"All=\", \"Foo\"]}", Some(PlanKind::BadArgument)),
-    (
-        "{Not = [{Or = [\"Foo\"]}, \"All=\"]}",
-        Some(PlanKind::UnknownMatcher),
-    ),
-    ("{Xor = [\"All\"]}", Some(PlanKind::BadArgument)),
-    ("{Xor = [\"All\", {Not = [\"Fail\"]}]}", None),
-    (
-        "{Xor = [\"All\", \"All\", \"All\"]}",
-        Some(PlanKind::BadArgument),
-    ),
-];
-
-#[test]
-fn matchers(rt: HostRuntime) -> Result<(), Fail> {
-    for (matcher, kind) in MATCHERS {
+/// Fails where a step with one of these values of `match` has another fault.
+fn assert_matchers(
+    rt: &(impl Abort + AllocGlobal),
+    matchers: &[&str],
+    kind: Option<PlanKind>,
+) -> Result<(), Fail> {
+    for matcher in matchers {
         let parts = [SPOOL, ROOT, STEP, "match = ", matcher, NULL, ERROR];
-        assert_fault(&rt, &parts, fault_of(kind, 1, 1), matcher)?;
+        assert_fault(rt, &parts, fault_of(kind, 1, 1), matcher)?;
     }
     Ok(())
 }
 
-/// The other lines of a step.
-const CLASSES: [(&str, Option<PlanKind>); 58] = [
-    ("", Some(PlanKind::Missing)),
-    ("class = 5\n", Some(PlanKind::WrongType)),
-    ("class = \"null\"\n", Some(PlanKind::UnknownClass)),
-    ("class = \"Null\"\nprocessor = 5\n", None),
-    ("class = \"ToProcessor\"\n", Some(PlanKind::Missing)),
-    (
-        "class = \"ToProcessor\"\nprocessor = 5\n",
-        Some(PlanKind::WrongType),
-    ),
-    (
-        "class = \"ToProcessor\"\nprocessor = \"nowhere\"\n",
-        Some(PlanKind::UnknownProcessor),
-    ),
-    ("class = \"ToProcessor\"\nprocessor = \"error\"\n", None),
-    ("class = \"ToProcessor\"\nprocessor = \"ghost\"\n", None),
-    (
-        "class = \"SetMailAttribute\"\nattributes = {}\n",
-        Some(PlanKind::BadArgument),
-    ),
-    (
-        "class = \"SetMailAttribute\"\nattributes = {a = \"\", b = 5}\n",
-        Some(PlanKind::WrongType),
-    ),
-    (
-        "class = \"SetMailAttribute\"\nattributes = {\"a,b\" = \"c\"}\n",
-        Some(PlanKind::BadArgument),
-    ),
-    (
-        "class = \"SetMailAttribute\"\nattributes = {b = \"c\", a = \"\"}\n",
-        None,
-    ),
-    ("class = \"RemoveMailAttribute\"\nname = \"a, b\"\n", None),
-    (
-        "class = \"RemoveMailAttribute\"\nname = \"a,\"\n",
-        Some(PlanKind::BadArgument),
-    ),
-    ("class = \"RemoveAllMailAttributes\"\n", None),
-    (
-        "class = \"SetMimeHeader\"\nname = \"X A\"\nvalue = 5\n",
-        Some(PlanKind::BadArgument),
-    ),
-    (
-        "class = \"SetMimeHeader\"\nname = \"X-A\"\nvalue = \"\"\n",
-        Some(PlanKind::BadArgument),
-    ),
-    (
-        "class = \"SetMimeHeader\"\nname = \"X-A\"\nvalue = \"b\"\n",
-        None,
-    ),
-    (
-        "class = \"RemoveMimeHeader\"\nname = \" \"\n",
-        Some(PlanKind::BadArgument),
-    ),
-    ("class = \"RemoveMimeHeader\"\nname = \"X-A,X-B\"\n", None),
-    (
-        "class = \"MailAttributesToMimeHeaders\"\nsimplemapping = [\"a\", 5]\n",
-        Some(PlanKind::WrongType),
-    ),
-    (
-        "class = \"MailAttributesToMimeHeaders\"\nsimplemapping = [\"a\"]\n",
-        Some(PlanKind::BadArgument),
-    ),
-    (
-        "class = \"MailAttributesToMimeHeaders\"\nsimplemapping = []\n",
-        Some(PlanKind::BadArgument),
-    ),
-    (
-        "class = \"MailAttributesToMimeHeaders\"\nsimplemapping = [\"a;X-A\"]\n",
-        None,
-    ),
-    (
-        "class = \"AddSubjectPrefix\"\nsubjectPrefix = \"[x]\"\n",
-        None,
-    ),
-    ("class = \"RecipientToLowerCase\"\n", None),
-    ("class = \"PostmasterAlias\"\n", None),
-    ("class = \"RecipientRewriteTable\"\n", None),
-    (
-        "class = \"Forward\"\nforwardTo = \"\"\n",
-        Some(PlanKind::BadArgument),
-    ),
-    (
-        "class = \"Forward\"\nforwardTo = \"a@b.test,c\"\n",
-        Some(PlanKind::BadAddress),
-    ),
-    (
-        "class = \"Forward\"\nforwardTo = \"a@b.test, c@d.test\"\npassThrough = \"yes\"\n",
-        Some(PlanKind::BadArgument),
-    ),
-    (
-        "class = \"Forward\"\nforwardTo = \"a@b.test\"\npassThrough = \"true\"\n",
-        None,
-    ),
-    ("class = \"Bounce\"\n", None),
-    (
-        "class = \"Bounce\"\nmessage = \"\"\n",
-        Some(PlanKind::BadArgument),
-    ),
-    (
-        "class = \"NotifyPostmaster\"\npassThrough = 1\n",
-        Some(PlanKind::WrongType),
-    ),
-    ("class = \"LocalDelivery\"\n", None),
-    ("class = \"ToRepository\"\n", Some(PlanKind::Missing)),
-    (
-        "class = \"ToRepository\"\nrepositoryPath = \"a b\"\n",
-        Some(PlanKind::BadArgument),
-    ),
-    (
-        "class = \"ToRepository\"\nrepositoryPath = \"file://var/mail\"\npassThrough = false\n",
-        None,
-    ),
-    ("class = \"RemoteDelivery\"\n", None),
-    (
-        "class = \"RemoteDelivery\"\noutgoing = \"a b\"\n",
-        Some(PlanKind::BadArgument),
-    ),
-    (
-        "class = \"RemoteDelivery\"\ndelayTime = 5\n",
-        Some(PlanKind::WrongType),
-    ),
-    (
-        "class = \"RemoteDelivery\"\ndelayTime = \"0*5 s\"\nmaxRetries = true\n",
-        Some(PlanKind::WrongType),
-    ),
-    (
-        "class = \"RemoteDelivery\"\ndelayTime = \"0*5 s\"\n",
-        Some(PlanKind::BadArgument),
-    ),
-    (
-        "class = \"RemoteDelivery\"\ndelayTime = \"8 days\"\n",
-        Some(PlanKind::BadArgument),
-    ),
-    ("class = \"RemoteDelivery\"\nmaxRetries = 100\n", None),
-    (
-        "class = \"RemoteDelivery\"\nmaxRetries = 101\n",
-        Some(PlanKind::BadArgument),
-    ),
-    (
-        "class = \"RemoteDelivery\"\ngateway = \"-\"\nbounceProcessor = \"nowhere\"\n",
-        Some(PlanKind::BadAddress),
-    ),
-    (
-        "class = \"RemoteDelivery\"\nbounceProcessor = \"nowhere\"\n",
-        Some(PlanKind::UnknownProcessor),
-    ),
-    (
-        "class = \"RemoteDelivery\"\ngateway = \"g.test\"\nbounceProcessor = \"ghost\"\n",
-        None,
-    ),
-    (
-        "class = \"Fail\"\ntext = \"\"\n",
-        Some(PlanKind::BadArgument),
-    ),
-    ("class = \"Fail\"\n", None),
-    (
-        "class = \"Null\"\nonMatchException = \"matchall\"\nonMailetException = \"ignore\"\n",
-        None,
-    ),
-    (
-        "class = \"Null\"\nonMatchException = \"ignore\"\n",
-        Some(PlanKind::UnknownProcessor),
-    ),
-    (
-        "class = \"Null\"\nonMatchException = 5\nonMailetException = \"nomatch\"\n",
-        Some(PlanKind::WrongType),
-    ),
-    (
-        "class = \"Null\"\nonMailetException = \"nomatch\"\n",
-        Some(PlanKind::UnknownProcessor),
-    ),
-    (
-        "class = \"ToProcessor\"\nonMatchException = 5\n",
-        Some(PlanKind::Missing),
-    ),
+const MATCHERS_TAKEN: [&str; 27] = [
+    "\"All\"",
+    "\"RecipientIs= a@b.test ,c@d.test\"",
+    "\"RecipientIsLocal\"",
+    "\"HostIs=b.test\"",
+    "\"UserIs=ann,bob\"",
+    "\"SenderIs=a@b.test\"",
+    "\"SenderIsNull\"",
+    "\"SizeGreaterThan=10\"",
+    "\"SizeGreaterThan=10k\"",
+    "\"SizeGreaterThan=999999999m\"",
+    "\"SubjectIs=a=b\"",
+    "\"HasHeader=X-A\"",
+    "\"HasHeader=X-A=\"",
+    "\"HasHeader=X-A= b\"",
+    "\"HasMailAttributeWithValue=a,\"",
+    "\"HasMailAttributeWithValue= a , b,c \"",
+    "\"RelayLimit=0009999\"",
+    "\"IsSingleRecipient\"",
+    "\"TooManyRecipients=1\"",
+    "\"CompareNumericHeaderValue=X-Spam  >=  5\"",
+    "\"CompareNumericHeaderValue=X-Spam == 123456789012345678\"",
+    "\"IsRemoteDeliveryPermanentError\"",
+    "\"IsRemoteDeliveryTemporaryError\"",
+    "\"RemoteDeliveryFailedWithSMTPCode=550\"",
+    "\"Fail\"",
+    "{And = [\"All\"]}",
+    "{Xor = [\"All\", {Not = [\"Fail\"]}]}",
+];
+
+const MATCHERS_BAD_ARGUMENT: [&str; 28] = [
+    "\"All=\"",
+    "\"RecipientIs\"",
+    "\"RecipientIs= \"",
+    "\"HostIsLocal=b.test\"",
+    "\"UserIs=ann,,bob\"",
+    "\"SizeGreaterThan=10K\"",
+    "\"SizeGreaterThan=k\"",
+    "\"SizeGreaterThan=1234567890\"",
+    "\"SubjectStartsWith=\"",
+    "\"HasHeader=X A\"",
+    "\"HasHeader==b\"",
+    "\"HasMailAttribute=a,b\"",
+    "\"HasMailAttributeWithValue=a\"",
+    "\"RelayLimit=0\"",
+    "\"RelayLimit=10000\"",
+    "\"TooManyRecipients=-1\"",
+    "\"CompareNumericHeaderValue=X-Spam = 1234567890123456789\"",
+    "\"CompareNumericHeaderValue=X-Spam>=5\"",
+    "\"CompareNumericHeaderValue=X-Spam => 5\"",
+    "\"CompareNumericHeaderValue=X-Spam < 5 6\"",
+    "\"RemoteDeliveryFailedWithSMTPCode=55\"",
+    "{}",
+    "{And = [\"All\"], Or = [\"All\"]}",
+    "{And = []}",
+    "{Nand = [\"All\"]}",
+    "{Or = [\"All=\", \"Foo\"]}",
+    "{Xor = [\"All\"]}",
+    "{Xor = [\"All\", \"All\", \"All\"]}",
+];
+
+const MATCHERS_UNKNOWN_MATCHER: [&str; 4] = [
+    "\"all\"",
+    "\" All\"",
+    "\"\"",
+    "{Not = [{Or = [\"Foo\"]}, \"All=\"]}",
+];
+
+const MATCHERS_WRONG_TYPE: [&str; 5] = [
+    "5",
+    "[\"All\"]",
+    "{And = \"All\"}",
+    "{Nand = [5]}",
+    "{Or = [\"Foo\", 5]}",
+];
+
+const MATCHERS_BAD_ADDRESS: [&str; 3] = [
+    "\"RecipientIs=a@b.test,\"",
+    "\"HostIs=b.test,,d.test\"",
+    "\"SenderHostIs=-\"",
+];
+
+#[test]
+fn matchers(rt: HostRuntime) -> Result<(), Fail> {
+    assert_matchers(&rt, &MATCHERS_TAKEN, None)?;
+    assert_matchers(&rt, &MATCHERS_BAD_ARGUMENT, Some(PlanKind::BadArgument))?;
+    assert_matchers(
+        &rt,
+        &MATCHERS_UNKNOWN_MATCHER,
+        Some(PlanKind::UnknownMatcher),
+    )?;
+    assert_matchers(&rt, &MATCHERS_WRONG_TYPE, Some(PlanKind::WrongType))?;
+    assert_matchers(&rt, &MATCHERS_BAD_ADDRESS, Some(PlanKind::BadAddress))?;
+    Ok(())
+}
+
+/// Fails where a step with one of these lines behind its matcher has another fault.
+fn assert_lines(
+    rt: &(impl Abort + AllocGlobal),
+    classes: &[&str],
+    kind: Option<PlanKind>,
+) -> Result<(), Fail> {
+    for lines in classes {
+        let parts = [SPOOL, ROOT, STEP, ALL, lines, ERROR];
+        assert_fault(rt, &parts, fault_of(kind, 1, 1), lines)?;
+    }
+    Ok(())
+}
+
+const LINES_MISSING: [&str; 4] = [
+    "",
+    "class = \"ToProcessor\"\n",
+    "class = \"ToRepository\"\n",
+    "class = \"ToProcessor\"\nonMatchException = 5\n",
+];
+
+const LINES_WRONG_TYPE: [&str; 8] = [
+    "class = 5\n",
+    "class = \"ToProcessor\"\nprocessor = 5\n",
+    "class = \"SetMailAttribute\"\nattributes = {a = \"\", b = 5}\n",
+    "class = \"MailAttributesToMimeHeaders\"\nsimplemapping = [\"a\", 5]\n",
+    "class = \"NotifyPostmaster\"\npassThrough = 1\n",
+    "class = \"RemoteDelivery\"\ndelayTime = 5\n",
+    "class = \"RemoteDelivery\"\ndelayTime = \"0*5 s\"\nmaxRetries = true\n",
+    "class = \"Null\"\nonMatchException = 5\nonMailetException = \"nomatch\"\n",
+];
+
+const LINES_UNKNOWN_CLASS: [&str; 1] = ["class = \"null\"\n"];
+
+const LINES_TAKEN: [&str; 22] = [
+    "class = \"Null\"\nprocessor = 5\n",
+    "class = \"ToProcessor\"\nprocessor = \"error\"\n",
+    "class = \"ToProcessor\"\nprocessor = \"ghost\"\n",
+    "class = \"SetMailAttribute\"\nattributes = {b = \"c\", a = \"\"}\n",
+    "class = \"RemoveMailAttribute\"\nname = \"a, b\"\n",
+    "class = \"RemoveAllMailAttributes\"\n",
+    "class = \"SetMimeHeader\"\nname = \"X-A\"\nvalue = \"b\"\n",
+    "class = \"RemoveMimeHeader\"\nname = \"X-A,X-B\"\n",
+    "class = \"MailAttributesToMimeHeaders\"\nsimplemapping = [\"a;X-A\"]\n",
+    "class = \"AddSubjectPrefix\"\nsubjectPrefix = \"[x]\"\n",
+    "class = \"RecipientToLowerCase\"\n",
+    "class = \"PostmasterAlias\"\n",
+    "class = \"RecipientRewriteTable\"\n",
+    "class = \"Forward\"\nforwardTo = \"a@b.test\"\npassThrough = \"true\"\n",
+    "class = \"Bounce\"\n",
+    "class = \"LocalDelivery\"\n",
+    "class = \"ToRepository\"\nrepositoryPath = \"file://var/mail\"\npassThrough = false\n",
+    "class = \"RemoteDelivery\"\n",
+    "class = \"RemoteDelivery\"\nmaxRetries = 100\n",
+    "class = \"RemoteDelivery\"\ngateway = \"g.test\"\nbounceProcessor = \"ghost\"\n",
+    "class = \"Fail\"\n",
+    "class = \"Null\"\nonMatchException = \"matchall\"\nonMailetException = \"ignore\"\n",
+];
+
+const LINES_UNKNOWN_PROCESSOR: [&str; 4] = [
+    "class = \"ToProcessor\"\nprocessor = \"nowhere\"\n",
+    "class = \"RemoteDelivery\"\nbounceProcessor = \"nowhere\"\n",
+    "class = \"Null\"\nonMatchException = \"ignore\"\n",
+    "class = \"Null\"\nonMailetException = \"nomatch\"\n",
+];
+
+const LINES_BAD_ARGUMENT: [&str; 17] = [
+    "class = \"SetMailAttribute\"\nattributes = {}\n",
+    "class = \"SetMailAttribute\"\nattributes = {\"a,b\" = \"c\"}\n",
+    "class = \"RemoveMailAttribute\"\nname = \"a,\"\n",
+    "class = \"SetMimeHeader\"\nname = \"X A\"\nvalue = 5\n",
+    "class = \"SetMimeHeader\"\nname = \"X-A\"\nvalue = \"\"\n",
+    "class = \"RemoveMimeHeader\"\nname = \" \"\n",
+    "class = \"MailAttributesToMimeHeaders\"\nsimplemapping = [\"a\"]\n",
+    "class = \"MailAttributesToMimeHeaders\"\nsimplemapping = []\n",
+    "class = \"Forward\"\nforwardTo = \"\"\n",
+    "class = \"Forward\"\nforwardTo = \"a@b.test, c@d.test\"\npassThrough = \"yes\"\n",
+    "class = \"Bounce\"\nmessage = \"\"\n",
+    "class = \"ToRepository\"\nrepositoryPath = \"a b\"\n",
+    "class = \"RemoteDelivery\"\noutgoing = \"a b\"\n",
+    "class = \"RemoteDelivery\"\ndelayTime = \"0*5 s\"\n",
+    "class = \"RemoteDelivery\"\ndelayTime = \"8 days\"\n",
+    "class = \"RemoteDelivery\"\nmaxRetries = 101\n",
+    "class = \"Fail\"\ntext = \"\"\n",
+];
+
+const LINES_BAD_ADDRESS: [&str; 2] = [
+    "class = \"Forward\"\nforwardTo = \"a@b.test,c\"\n",
+    "class = \"RemoteDelivery\"\ngateway = \"-\"\nbounceProcessor = \"nowhere\"\n",
 ];
 
 #[test]
 fn classes_and_parameters(rt: HostRuntime) -> Result<(), Fail> {
-    for (lines, kind) in CLASSES {
-        let parts = [SPOOL, ROOT, STEP, ALL, lines, ERROR];
-        assert_fault(&rt, &parts, fault_of(kind, 1, 1), lines)?;
-    }
+    assert_lines(&rt, &LINES_MISSING, Some(PlanKind::Missing))?;
+    assert_lines(&rt, &LINES_WRONG_TYPE, Some(PlanKind::WrongType))?;
+    assert_lines(&rt, &LINES_UNKNOWN_CLASS, Some(PlanKind::UnknownClass))?;
+    assert_lines(&rt, &LINES_TAKEN, None)?;
+    assert_lines(
+        &rt,
+        &LINES_UNKNOWN_PROCESSOR,
+        Some(PlanKind::UnknownProcessor),
+    )?;
+    assert_lines(&rt, &LINES_BAD_ARGUMENT, Some(PlanKind::BadArgument))?;
+    assert_lines(&rt, &LINES_BAD_ADDRESS, Some(PlanKind::BadAddress))?;
     Ok(())
 }
 

@@ -94,18 +94,33 @@ fn lists_of_delays(rt: HostRuntime) {
     }
 }
 
+/// The first six delays where there is no text, of the schedule and of a copy of it.
+fn without_a_text(alloc: Global, max_retries: u32) -> Result<[[Option<u64>; 6]; 2], Fail> {
+    let schedule = Schedule::read(alloc, None, max_retries)?;
+    let copy = schedule.copy(alloc)?;
+    Ok([six(&schedule), six(&copy)])
+}
+
+const HOURS: Option<u64> = Some(21_600_000);
+
 #[test]
 fn lists_without_a_text(rt: HostRuntime) -> Result<(), Fail> {
-    let five = Schedule::read(rt.alloc(), None, 5)?;
-    let hours = Some(21_600_000);
-    assert_eq!(rt; six(&five), [hours, hours, hours, hours, hours, None]);
-    assert_eq!(rt; five.len(), 5);
-    let one = Schedule::read(rt.alloc(), None, 0)?;
-    assert_eq!(rt; six(&one), [hours, None, None, None, None, None]);
-    let copy = one.copy(rt.alloc())?;
-    assert_eq!(rt; six(&copy), [hours, None, None, None, None, None]);
+    let rows = [
+        (5, [HOURS, HOURS, HOURS, HOURS, HOURS, None]),
+        (0, [HOURS, None, None, None, None, None]),
+    ];
+    for (max_retries, want) in rows {
+        let found = without_a_text(rt.alloc(), max_retries)?;
+        assert!(rt; found == [want, want], "at {max_retries}");
+    }
+    assert_eq!(rt; Schedule::read(rt.alloc(), None, 5)?.len(), 5);
+    Ok(())
+}
+
+#[test]
+fn many_delays_without_a_text(rt: HostRuntime) -> Result<(), Fail> {
     let most = Schedule::read(rt.alloc(), None, 100)?;
-    assert_eq!(rt; most.delay_after(100), hours);
+    assert_eq!(rt; most.delay_after(100), HOURS);
     assert_eq!(rt; most.delay_after(101), None);
     assert_eq!(rt;
         Schedule::read(rt.alloc(), None, 101).err(),

@@ -1,4 +1,4 @@
-//! Tests of addresses, heads, delays, moments, dates and mail files.
+//! Tests of addresses, delays, moments, dates and mail files.
 #![tactic(auto)]
 
 #[cfg(test)]
@@ -6,11 +6,7 @@ mod addresses;
 #[cfg(test)]
 mod delays;
 #[cfg(test)]
-mod heads;
-#[cfg(test)]
 mod mail_files;
-#[cfg(test)]
-mod plain_lines;
 #[cfg(test)]
 mod texts;
 #[cfg(test)]

@@ -3,7 +3,7 @@ ghost use Rattle.std.specs.Prelude.{◌≡◌, ◌≤◌, [], ◌∷◌, ◌++�
 ghost use Rattle.toml.specs.View.{view, table_view};
 ghost use Rattle.mj_config_walk.specs.Values.{Gives, optional, target};
 ghost use Rattle.mj_config_walk.specs.Deliveries.{IsNew, deliveries_of};
-ghost use Rattle.mj_config_walk.specs.Walk.{Answers, deliveries, located, steps_from, default_mailet_route, default_match_route, mailet_in, mailet_route, mailet_route_of, match_route, match_route_of, matcher_in, routes_in, step_of};
+ghost use Rattle.mj_config_walk.specs.Walk.{Answers, deliveries, located, steps_from, default_mailet_route, default_match_route, mailet_in, mailet_route, mailet_route_of, match_route, match_route_of, matcher_in, routes_in, step_of, work_in};
 
 use crate::fault::fault_at;
 use mj_config_mailets::mailet_of;
@@ -49,33 +49,18 @@ fn step_at(
     ensures taken { IfOk result (λ step. taken.new ≡ taken.old ++ deliveries (step ∷ [])) }
 {
     match step(alloc, names, taken, table) {
-        Ok(step) => {
-            take_delivery(alloc, taken, &step.mailet)?;
-            Ok(step)
-        }
+        Ok(step) => Ok(step),
         Err(refusal) => Err(fault_at(refusal, processor, number)),
     }
 }
 
-/// Adds the name of a remote delivery to those that are taken.
-fn take_delivery(alloc: Global, taken: &mut Names, mailet: &MailetKind) -> Result<(), Memory>
-    requires { IsNew taken.old mailet.now }
-    ensures { OnOk result (taken.new ≡ taken.old ++ deliveries_of mailet.now) }
-{
-    match mailet {
-        MailetKind::RemoteDelivery { outgoing, .. } => taken.add(alloc, outgoing.as_slice()),
-        _ => Ok(()),
-    }
-}
-
-/// The step of a table, where these processors are there and these names of remote deliveries are taken.
-fn step(alloc: Global, names: &Names, taken: &Names, table: &Table) -> Result<Step, Refusal>
-    ensures exact { Gives result (step_of names.now taken.now (table_view table.now)) }
-    ensures new { IfOk result (λ step. IsNew taken.now step.mailet) }
+/// The step of a table, where these processors are there. The name of its remote delivery is taken then.
+fn step(alloc: Global, names: &Names, taken: &mut Names, table: &Table) -> Result<Step, Refusal>
+    ensures exact { Gives result (step_of names.now taken.old (table_view table.now)) }
+    ensures taken { IfOk result (λ step. taken.new ≡ taken.old ++ deliveries (step ∷ [])) }
 {
     let matcher = matcher_in(alloc, table)?;
-    let mailet = mailet_in(alloc, names, taken, table)?;
-    let (on_match, on_mailet) = routes_in(alloc, names, table)?;
+    let (mailet, (on_match, on_mailet)) = work_in(alloc, names, taken, table)?;
     Ok(Step {
         matcher,
         on_match,
@@ -91,18 +76,46 @@ fn matcher_in(alloc: Global, table: &Table) -> Result<MatchExpr, Refusal>
     matcher(alloc, required(table, "match")?)
 }
 
-/// What a step does with them, where these names of remote deliveries are taken.
+/// What a step does with them, and where they go where that or the matcher fails.
+fn work_in(
+    alloc: Global,
+    names: &Names,
+    taken: &mut Names,
+    table: &Table,
+) -> Result<(MailetKind, (MatchRoute, MailetRoute)), Refusal>
+    ensures exact { Gives result (work_in names.now taken.old (table_view table.now)) }
+    ensures taken { IfOk result (λ work. taken.new ≡ taken.old ++ deliveries_of work.0) }
+{
+    let mailet = mailet_in(alloc, names, taken, table)?;
+    let routes = routes_in(alloc, names, table)?;
+    Ok((mailet, routes))
+}
+
+/// The mailet of a step. The name of its remote delivery is taken then.
 fn mailet_in(
     alloc: Global,
     names: &Names,
-    taken: &Names,
+    taken: &mut Names,
     table: &Table,
 ) -> Result<MailetKind, Refusal>
-    ensures exact { Gives result (mailet_in names.now taken.now (table_view table.now)) }
-    ensures new { IfOk result (λ mailet. IsNew taken.now mailet) }
+    ensures exact { Gives result (mailet_in names.now taken.old (table_view table.now)) }
+    ensures taken { IfOk result (λ mailet. taken.new ≡ taken.old ++ deliveries_of mailet) }
 {
     let class = text(required(table, "class")?)?;
-    mailet_of(alloc, names, taken, class, table)
+    let mailet = mailet_of(alloc, names, taken, class, table)?;
+    take_delivery(alloc, taken, &mailet)?;
+    Ok(mailet)
+}
+
+/// Adds the name of a remote delivery to those that are taken.
+fn take_delivery(alloc: Global, taken: &mut Names, mailet: &MailetKind) -> Result<(), Memory>
+    requires { IsNew taken.old mailet.now }
+    ensures { OnOk result (taken.new ≡ taken.old ++ deliveries_of mailet.now) }
+{
+    match mailet {
+        MailetKind::RemoteDelivery { outgoing, .. } => taken.add(alloc, outgoing.as_slice()),
+        _ => Ok(()),
+    }
 }
 
 /// Where a mail goes where the matcher or the mailet fails.

@@ -16,7 +16,7 @@ use Rattle.mj_plan.specs.declared.plan.MatchRoute.TheVariants as on_match
 use Rattle.mj_plan.specs.declared.plan.Step.{Step}
 use Rattle.mj_plan.specs.Sound.{is_match_route, is_mailet_route, is_matcher, is_step, outgoing_of}
 use Rattle.mj_config_walk.specs.Values.{required, text}
-use Rattle.mj_config_walk.specs.Walk.{match_route_of, match_route, mailet_route_of, mailet_route, needed, matcher_in, mailet_in, routes_in, step_of, deliveries, steps_from}
+use Rattle.mj_config_walk.specs.Walk.{match_route_of, match_route, mailet_route_of, mailet_route, needed, matcher_in, mailet_in, routes_in, work_in, step_of, deliveries, steps_from}
 use Rattle.mj_config_sound.proofs.Holds.{Holds, ok, bind, skip, choose, optional_of, located_of, after}
 use Rattle.mj_config_sound.proofs.Fresh.{are_new}
 use Rattle.mj_config_sound.proofs.SoundMatchers.{matcher_of}
@@ -55,10 +55,14 @@ record AreRoutes (names : List (List ℕ)) (routes : MatchRoute × MailetRoute) 
   on_match : is_match_route names routes.0 ≡ true
   on_mailet : is_mailet_route names routes.1 ≡ true
 
-formed_step : (names taken : List (List ℕ)) (matches : MatchExpr) (kind : MailetKind) (routes : MatchRoute × MailetRoute)
-    → is_matcher matches ≡ true → IsNew names taken kind → AreRoutes names routes
-    → IsNewStep names taken (record { matcher = matches; on_match = routes.0; mailet = kind; on_mailet = routes.1 })
-formed_step names taken matches kind routes a b c = record { formed = rw (a, c.on_match, b.formed, c.on_mailet); new = b.new }
+-- its mailet and its routes have their forms
+record IsWork (names taken : List (List ℕ)) (work : MailetKind × (MatchRoute × MailetRoute)) : Type 0 where
+  mailet : IsNew names taken work.0
+  routes : AreRoutes names work.1
+
+formed_step : (names taken : List (List ℕ)) (matches : MatchExpr) (work : MailetKind × (MatchRoute × MailetRoute)) → is_matcher matches ≡ true → IsWork names taken work
+    → IsNewStep names taken (record { matcher = matches; on_match = work.1.0; mailet = work.0; on_mailet = work.1.1 })
+formed_step names taken matches work a b = record { formed = rw (a, b.routes.on_match, b.mailet.formed, b.routes.on_mailet); new = b.mailet.new }
 
 matcher_in_of : (step : Members) → Holds (λ matches. is_matcher matches ≡ true) (matcher_in step)
 matcher_in_of step = skip (required (codes "match") step) matcher_of
@@ -75,12 +79,17 @@ module _ (names : List (List ℕ)) (error : list_any (bytes_eq (codes "error")) 
       (default_mailet names error) (λ value. skip (text value) (λ s. mailet_route_of_of names s))) (λ undone b.
       ok (unmatched, undone) (record { on_match = a; on_mailet = b })))
 
+  work_in_of : (taken : List (List ℕ)) (step : Members) → members_are_sorted step ≡ true → Holds (IsWork names taken) (work_in names taken step)
+  work_in_of taken step sorted =
+      bind (mailet_in_of names taken step sorted) (λ mailet a.
+      bind (routes_in_of step) (λ routes b.
+      ok (mailet, routes) (record { mailet = a; routes = b })))
+
   step_of_of : (taken : List (List ℕ)) (step : Members) → members_are_sorted step ≡ true → Holds (IsNewStep names taken) (step_of names taken step)
   step_of_of taken step sorted =
       bind (matcher_in_of step) (λ matches a.
-      bind (mailet_in_of names taken step sorted) (λ kind b.
-      bind (routes_in_of step) (λ routes c.
-      ok (record { matcher = matches; on_match = routes.0; mailet = kind; on_mailet = routes.1 }) (formed_step names taken matches kind routes a b c))))
+      bind (work_in_of taken step sorted) (λ work b.
+      ok (record { matcher = matches; on_match = work.1.0; mailet = work.0; on_mailet = work.1.1 }) (formed_step names taken matches work a b)))
 
   new_more : (taken rest : List (List ℕ)) (name : Option (List ℕ)) → option_map_or (λ s. not (list_any (bytes_eq s) taken)) name true ≡ true
       → are_new (taken ++ cons_option name []) rest ≡ true → are_new taken (cons_option name rest) ≡ true

@@ -218,14 +218,19 @@ routes_in names step = do
   on_mailet ← optional default_mailet_route (mailet_route names) (get_member (codes "onMailetException") step)
   Ok (on_match, on_mailet)
 
--- a step of a plan with these processors, where these names of remote deliveries are taken: its matcher, its mailet, and
--- then its routes
+-- its mailet, and then its routes
+abbrev pub work_in : List (List ℕ) → List (List ℕ) → Members → Result (MailetKind × (MatchRoute × MailetRoute)) PlanKind
+work_in names taken step = do
+  mailet ← mailet_in names taken step
+  routes ← routes_in names step
+  Ok (mailet, routes)
+
+-- a step of a plan with these processors, where these names of remote deliveries are taken
 abbrev pub step_of : List (List ℕ) → List (List ℕ) → Members → Result Step PlanKind
 step_of names taken step = do
   matches ← matcher_in step
-  mailet ← mailet_in names taken step
-  routes ← routes_in names step
-  Ok (record { matcher = matches; on_match = routes.0; mailet = mailet; on_mailet = routes.1 })
+  work ← work_in names taken step
+  Ok (record { matcher = matches; on_match = work.1.0; mailet = work.0; on_mailet = work.1.1 })
 
 -- ---- Places
 

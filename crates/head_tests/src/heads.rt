@@ -53,17 +53,29 @@ fn finds_the_body_and_the_first_fault(rt: HostRuntime) {
     assert_eq!(rt; MESSAGE.len(), 287);
 }
 
+/// Where the body begins behind a field with so many letters and this behind them.
+fn place_behind(
+    alloc: Global,
+    count: usize,
+    back: &str,
+) -> Result<Result<usize, HeadFault>, AllocError> {
+    let mut text = stretched(alloc, b"a:", b'x', count)?;
+    text.extend_from_slice(back.as_bytes())?;
+    Ok(place_of(alloc, &text))
+}
+
 #[test]
 fn limits_the_written_form(rt: HostRuntime) -> Result<(), Fail> {
-    let mut text = stretched(rt.alloc(), b"a:", b'x', 65_532)?;
-    assert!(rt; place_of(rt.alloc(), &text) == Ok(65_534));
-    text.push(b'x')?;
-    assert!(rt; place_of(rt.alloc(), &text) == Err(HeadFault::TooLong { line: 1 }));
-    text.truncate(65_530);
-    text.extend_from_slice(b"\n x")?;
-    assert!(rt; place_of(rt.alloc(), &text) == Ok(65_533));
-    text.push(b'x')?;
-    assert!(rt; place_of(rt.alloc(), &text) == Err(HeadFault::TooLong { line: 2 }));
+    let rows = [
+        (65_532, "", Ok(65_534)),
+        (65_533, "", Err(HeadFault::TooLong { line: 1 })),
+        (65_528, "\n x", Ok(65_533)),
+        (65_528, "\n xx", Err(HeadFault::TooLong { line: 2 })),
+    ];
+    for (count, back, want) in rows {
+        let found = place_behind(rt.alloc(), count, back)?;
+        assert!(rt; found == want, "at {count} and {back:?}");
+    }
     Ok(())
 }
 
@@ -122,16 +134,29 @@ fn appends(head: &mut Head, name: &[u8], value: &[u8]) -> Result<bool, AllocErro
     }
 }
 
+/// Whether a field with so many letters was added.
+fn appends_letters(
+    alloc: Global,
+    head: &mut Head,
+    name: &[u8],
+    count: usize,
+) -> Result<bool, AllocError> {
+    let value = stretched(alloc, b"", b'x', count)?;
+    appends(head, name, &value)
+}
+
 #[test]
 fn appends_what_fits(rt: HostRuntime) -> Result<(), Fail> {
-    let value = stretched(rt.alloc(), b"", b'x', 65_525)?;
+    let rows = [
+        ("A", 65_525, (true, 65_530)),
+        ("X-Longer", 0, (false, 65_530)),
+        ("X", 0, (true, 65_535)),
+    ];
     let mut head = Head::new(rt.alloc());
-    assert!(rt; appends(&mut head, b"A", &value)?);
-    assert!(rt; head.written_len() == 65_530);
-    assert!(rt; !appends(&mut head, b"X-Longer", b"")?);
-    assert!(rt; head.written_len() == 65_530);
-    assert!(rt; appends(&mut head, b"X", b"")?);
-    assert!(rt; head.written_len() == 65_535);
+    for (name, count, want) in rows {
+        let added = appends_letters(rt.alloc(), &mut head, name.as_bytes(), count)?;
+        assert!(rt; (added, head.written_len()) == want, "at {name:?}");
+    }
     Ok(())
 }
 
@@ -150,17 +175,29 @@ fn written_by_fields(alloc: Global, head: &Head) -> Result<Vec<u8>, AllocError>
 }
 
 #[test]
-fn gives_the_fields_in_order(rt: HostRuntime) -> Result<(), Fail> {
+fn writes_the_fields(rt: HostRuntime) -> Result<(), Fail> {
     let (head, _place) = read_head(rt.alloc(), MESSAGE.as_bytes())?;
     let text = written_by_fields(rt.alloc(), &head)?;
     assert!(rt; MESSAGE.as_bytes().starts_with(text.as_slice()));
     assert_eq!(rt; text.len(), 278);
+    Ok(())
+}
+
+#[test]
+fn gives_the_fields_in_order(rt: HostRuntime) -> Result<(), Fail> {
+    let (head, _place) = read_head(rt.alloc(), MESSAGE.as_bytes())?;
     let mut fields = head.fields();
     let first = fields.next().ok_or("no field")?;
     assert!(rt; first.is_named(b"received"));
     let second = fields.next().ok_or("no second field")?;
     assert!(rt; second.name() == b"From".as_slice());
     assert!(rt; second.body() == b" Cara <cara@example.net>".as_slice());
+    Ok(())
+}
+
+#[test]
+fn counts_the_fields(rt: HostRuntime) -> Result<(), Fail> {
+    let (head, _place) = read_head(rt.alloc(), MESSAGE.as_bytes())?;
     assert_eq!(rt; head.fields().count(), 7);
     assert!(rt; Head::new(rt.alloc()).fields().next().is_none());
     Ok(())
