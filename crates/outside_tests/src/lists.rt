@@ -3,6 +3,7 @@ ghost use Rattle.std.specs.List.{flat_map};
 
 use mj_fields::{Bytes, Items, Memory};
 use std::alloc::Global;
+use std::process::Abort;
 use std::test::Fail;
 
 /// A type that reaches itself through a list.
@@ -46,51 +47,83 @@ fn copied(alloc: Global, list: &Items<Bytes>) -> Result<Items<Bytes>, Memory>
     Ok(copies)
 }
 
-#[test]
-fn lists_inside_structs_and_inside_themselves(rt: HostRuntime) -> Result<(), Fail> {
-    let alloc = rt.alloc();
-    let mut inside = Items::new(alloc);
-    inside.push(Folder {
-        name: Bytes::from_slice(alloc, b"new")?,
-        inside: Items::new(alloc),
-    })?;
-    let folder = Folder {
-        name: Bytes::from_slice(alloc, b"mail/")?,
+fn named(alloc: Global, name: &[u8], inside: Items<Folder>) -> Result<Folder, Memory> {
+    Ok(Folder {
+        name: Bytes::from_slice(alloc, name)?,
         inside,
-    };
-    let mut names = Bytes::new(alloc);
-    put_names(&folder, &mut names)?;
-    assert_eq!(rt; names.as_slice(), b"mail/new".as_slice());
+    })
+}
 
+fn folder_of_one(alloc: Global) -> Result<Folder, Memory> {
+    let mut inside = Items::new(alloc);
+    inside.push(named(alloc, b"new", Items::new(alloc))?)?;
+    named(alloc, b"mail/", inside)
+}
+
+fn names(alloc: Global, folder: &Folder) -> Result<Bytes, Memory> {
+    let mut names = Bytes::new(alloc);
+    put_names(folder, &mut names)?;
+    Ok(names)
+}
+
+fn two_labels(alloc: Global) -> Result<Items<Bytes>, Memory> {
     let mut all = Items::new(alloc);
     all.push(Bytes::from_slice(alloc, b"a")?)?;
     all.push(Bytes::from_slice(alloc, b"bc")?)?;
-    let labels = Labels {
-        all: copied(alloc, &all)?,
-    };
-    let text = joined(alloc, &labels)?;
-    assert_eq!(rt; text.as_slice(), b"abc".as_slice());
+    Ok(all)
+}
+
+fn copied_labels(alloc: Global) -> Result<Labels, Memory> {
+    Ok(Labels {
+        all: copied(alloc, &two_labels(alloc)?)?,
+    })
+}
+
+fn assert_text(rt: &impl Abort, text: Bytes, want: &[u8]) {
+    assert_eq!(rt; text.as_slice(), want);
+}
+
+#[test]
+fn lists_inside_structs_and_inside_themselves(rt: HostRuntime) -> Result<(), Fail> {
+    let alloc = rt.alloc();
+    assert_text(&rt, names(alloc, &folder_of_one(alloc)?)?, b"mail/new");
+    assert_text(&rt, joined(alloc, &copied_labels(alloc)?)?, b"abc");
     Ok(())
+}
+
+fn three_bytes(alloc: Global) -> Result<Bytes, Memory> {
+    let mut bytes = Bytes::from_vec(Vec::new(alloc));
+    bytes.push(b'x')?;
+    bytes.extend(b"yz")?;
+    Ok(bytes)
+}
+
+fn copied_vec(alloc: Global, bytes: &Bytes) -> Result<Vec<u8>, Memory> {
+    Ok(bytes.copy(alloc)?.into_vec())
+}
+
+fn two_items(alloc: Global) -> Result<Items<u32>, Memory> {
+    let mut items = Items::from_vec(Vec::new(alloc));
+    items.push(7)?;
+    items.push(8)?;
+    Ok(items)
+}
+
+fn check_items(rt: &impl Abort, mut items: Items<u32>) {
+    let found = [items.get(1).copied(), items.get(2).copied(), items.pop()];
+    assert_eq!(rt; found, [Some(8), None, Some(8)]);
+    assert_eq!(rt; items.len(), 1);
+    assert_eq!(rt; items.into_vec().as_slice(), [7].as_slice());
 }
 
 #[test]
 fn small_calls(rt: HostRuntime) -> Result<(), Fail> {
     let alloc = rt.alloc();
-    let mut bytes = Bytes::from_vec(Vec::new(alloc));
-    assert!(rt; bytes.is_empty());
-    bytes.push(b'x')?;
-    bytes.extend(b"yz")?;
-    assert_eq!(rt; bytes.copy(alloc)?.into_vec().as_slice(), b"xyz".as_slice());
+    assert!(rt; Bytes::from_vec(Vec::new(alloc)).is_empty());
+    assert!(rt; Items::<u32>::from_vec(Vec::new(alloc)).is_empty());
+    check_items(&rt, two_items(alloc)?);
+    let bytes = three_bytes(alloc)?;
     assert_eq!(rt; bytes.len(), 3);
-
-    let mut items = Items::from_vec(Vec::new(alloc));
-    assert!(rt; items.is_empty());
-    items.push(7u32)?;
-    items.push(8)?;
-    assert_eq!(rt; items.get(1).copied(), Some(8));
-    assert_eq!(rt; items.get(2).copied(), None);
-    assert_eq!(rt; items.pop(), Some(8));
-    assert_eq!(rt; items.len(), 1);
-    assert_eq!(rt; items.into_vec().as_slice(), [7].as_slice());
+    assert_eq!(rt; copied_vec(alloc, &bytes)?.as_slice(), b"xyz".as_slice());
     Ok(())
 }
