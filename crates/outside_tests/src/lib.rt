@@ -1,9 +1,5 @@
-//! Tests of what lies at the bottom: lists and bytes, the fields of records, and the outside.
+//! Tests of the outside: files, sinks and wires.
 #![tactic(auto)]
 
-#[cfg(test)]
-mod fields;
-#[cfg(test)]
-mod lists;
 #[cfg(test)]
 mod outside;

@@ -1,5 +1,5 @@
 use Rattle.std.proofs.Common.{◌≡◌, take}
-use Rattle.outside_tests.proofs.lists.copied.Given as goal
+use Rattle.field_tests.proofs.lists.copied.Given as goal
 
 abbrev pub invariant-loop-item : goal.invariant-loop-item
 invariant-loop-item l = l.copies ≡ take l.item-index l.item-items
