@@ -3,6 +3,7 @@ ghost use Rattle.std.specs.List.{list_all};
 ghost use Rattle.std.specs.Str.{is_utf8};
 ghost use Rattle.mj_terms.specs.Causes.{Rose};
 
+use crate::warning::warn;
 use crate::{Files, FilesError};
 use mj_fields::{Bytes, Items, Memory};
 use std::alloc::Global;
@@ -18,7 +19,8 @@ const MOST_NAMES: usize = 1_000_000;
 const FIRST_ROOM: usize = 65_536;
 
 /// The files of the working folder. It tells nothing, and counts each call that the system refuses, each folder
-/// of more than a million names, and each name that isn't UTF-8. Contracts see it as that count.
+/// of more than a million names, and each name that isn't UTF-8. Contracts see it as that count. Each of these, and
+/// a missing folder, has a line on standard error.
 #[derive(Drop)]
 pub struct FolderFiles<E> {
     rt: E,
@@ -33,7 +35,7 @@ impl<E> Model for FolderFiles<E> {
     ghost view = { λ s. s.faults };
 }
 
-impl<E: rt::Files + AllocGlobal + Clone + Drop> FolderFiles<E> {
+impl<E: rt::Files + AllocGlobal + Eprint + Clone + Drop> FolderFiles<E> {
     /// The files under the folder in which the program runs, without a fault yet. Takes no memory.
     pub fn make(rt: E) -> FolderFiles<E>
         ensures { result ≡ 0 }
@@ -58,26 +60,34 @@ fn is_missing(error: &io::Error) -> bool {
     matches!(error.kind(), ErrorKind::NotFound | ErrorKind::NotADirectory)
 }
 
+/// The error again, once it was said. Want of memory isn't said.
+fn said<E: Eprint>(rt: &E, path: &str, error: io::Error) -> io::Error {
+    if error.kind() != ErrorKind::OutOfMemory {
+        warn(rt, path, &error);
+    }
+    error
+}
+
 /// Whether a regular file stands at the path, which may be a link to one.
-fn is_file<E: rt::Files>(rt: &E, path: &str) -> io::Result<bool> {
+fn is_file<E: rt::Files + Eprint>(rt: &E, path: &str) -> io::Result<bool> {
     match fs::metadata(rt, path) {
         Ok(metadata) => Ok(metadata.is_file()),
         Err(e) if is_missing(&e) => Ok(false),
-        Err(e) => Err(e),
+        Err(e) => Err(said(rt, path, e)),
     }
 }
 
-fn file_names<E: rt::Files + AllocGlobal + Clone + Drop>(
+fn file_names<E: rt::Files + AllocGlobal + Eprint + Clone + Drop>(
     alloc: Global,
     rt: &E,
     folder: &str,
 ) -> io::Result<Vec<String>> {
     let mut names = Vec::new(alloc);
-    for entry in fs::read_dir(rt, folder)? {
-        let entry = entry?;
+    for entry in fs::read_dir(rt, folder).map_err(|e| said(rt, folder, e))? {
+        let entry = entry.map_err(|e| said(rt, folder, e))?;
         if is_file(rt, entry.path().as_str())? {
             if names.len() >= MOST_NAMES {
-                return Err(io::Error::from(ErrorKind::Other));
+                return Err(said(rt, folder, io::Error::other("more than 1,000,000 files")));
             }
             names.push(String::from_str(alloc, entry.file_name())?)?;
         }
@@ -160,7 +170,7 @@ fn read_file<E: rt::Files>(
     Ok(Some(read_bytes(alloc, &mut file, room, limit)?))
 }
 
-impl<E: rt::Files + AllocGlobal + Clone + Drop> Files for FolderFiles<E> {
+impl<E: rt::Files + AllocGlobal + Eprint + Clone + Drop> Files for FolderFiles<E> {
     ghost told = { λ _. None };
 
     ghost faults = { λ s. s };
@@ -181,7 +191,10 @@ impl<E: rt::Files + AllocGlobal + Clone + Drop> Files for FolderFiles<E> {
     ) -> Result<Option<Bytes>, FilesError> {
         match read_file(alloc, &self.rt, path, limit) {
             Ok(found) => Ok(found.map(Bytes::from_vec)),
-            Err(e) => Err(self.judge(e)),
+            Err(e) => {
+                let e = said(&self.rt, path, e);
+                Err(self.judge(e))
+            }
         }
     }
 }

@@ -14,6 +14,7 @@ mod memory_sink;
 mod memory_wire;
 mod out_sink;
 mod sink;
+mod warning;
 mod wire;
 
 pub use files::{Files, FilesError};

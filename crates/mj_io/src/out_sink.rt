@@ -1,11 +1,13 @@
 ghost use Rattle.std.specs.Prelude.{◌≡◌, None};
 
+use crate::warning::warn;
 use crate::{Failed, Sink};
+use std::io;
 use std::io::ErrorKind;
 use std::marker::Model;
 
 /// Standard output. It tells nothing, and counts each write that the system refuses. Contracts see it as that
-/// count.
+/// count. Each of these has a line on standard error.
 #[derive(Drop)]
 pub struct OutSink<E> {
     rt: E,
@@ -20,7 +22,7 @@ impl<E> Model for OutSink<E> {
     ghost view = { λ s. s.faults };
 }
 
-impl<E: Print + Drop> OutSink<E> {
+impl<E: Print + Eprint + Drop> OutSink<E> {
     /// Standard output of this runtime, without a fault yet. Takes no memory.
     pub fn make(rt: E) -> OutSink<E>
         ensures { result ≡ 0 }
@@ -29,40 +31,40 @@ impl<E: Print + Drop> OutSink<E> {
     }
 }
 
-/// What is left of a piece after one write; `None` where the system refused it or took no byte.
-fn write_some<'a, E: Print>(rt: &E, rest: &'a [u8]) -> Option<&'a [u8]> {
+/// What is left of a piece after one write. A write that takes no byte is an error.
+fn write_some<'a, E: Print>(rt: &E, rest: &'a [u8]) -> io::Result<&'a [u8]> {
     match rt.write_some(rest) {
-        Ok(0) => None,
-        Ok(n) => rest.get(n..),
-        Err(e) if e.kind() == ErrorKind::Interrupted => Some(rest),
-        Err(_) => None,
+        Ok(0) => Err(io::Error::from(ErrorKind::WriteZero)),
+        Ok(n) => Ok(&rest[n..]),
+        Err(e) if e.kind() == ErrorKind::Interrupted => Ok(rest),
+        Err(e) => Err(e),
     }
 }
 
-fn write_whole<E: Print>(rt: &E, piece: &[u8]) -> bool {
+fn write_whole<E: Print>(rt: &E, piece: &[u8]) -> io::Result<()> {
     let mut rest = piece;
     for _ in 0..u64::MAX {
         if rest.is_empty() {
-            return true;
+            return Ok(());
         }
-        match write_some(rt, rest) {
-            Some(left) => rest = left,
-            None => return false,
-        }
+        rest = write_some(rt, rest)?;
     }
-    rest.is_empty()
+    Err(io::Error::from(ErrorKind::Interrupted))
 }
 
-impl<E: Print + Drop> Sink for OutSink<E> {
+impl<E: Print + Eprint + Drop> Sink for OutSink<E> {
     ghost told = { λ _. None };
 
     ghost faults = { λ s. s };
 
     fn write(&mut self, piece: &[u8]) -> Result<(), Failed> {
-        if write_whole(&self.rt, piece) {
-            return Ok(());
+        match write_whole(&self.rt, piece) {
+            Ok(()) => Ok(()),
+            Err(e) => {
+                warn(&self.rt, "standard output", &e);
+                self.faults = self.faults.saturating_add(1);
+                Err(Failed)
+            }
         }
-        self.faults = self.faults.saturating_add(1);
-        Err(Failed)
     }
 }
