@@ -18,6 +18,11 @@ Shapes:
               of an empty run
   queue       a due queue that is filled with 1,000,000 pairs, the latest first, and emptied: the time above that of ten
               pairs, against that of 100,000, and the peak memory a pair
+  log         payloads of 200, 4,096 and 65,536 bytes that are added to a log, one by one and in groups of 64: the time of a
+              payload, against that of bench/append.c, which makes the same writes and syncs. In memory (/dev/shm): the
+              user time of an append of 200 bytes; the time to open a log of 1,000,000 payloads of 200 bytes against
+              that of 100,000, and the reads and the peak memory a payload; and the time to open one of payloads of
+              65,536 bytes against cat's
 
 A round runs every folder of a shape once, one after the other, so that what slows the machine for a while slows them
 alike. Each time is the wall clock's, the best of the rounds; each ratio is the median of the rounds' own. The files are
@@ -25,10 +30,11 @@ in the page cache, and a run begins with nothing but `conf` and `mails` in its f
 ru_maxrss; it can't be told below that of the shell that starts the program (about 1 MiB). MB are 1,000,000 bytes. An
 empty run has a folder without mails. `cat` is started by `xargs -0`, which takes several of them for more than some ten
 thousand files. `toml` alone is the program of crates/toml_yardstick, which reads the file and parses it; the queue's is that
-of crates/ready_bench.
+of crates/ready_bench, the log's that of crates/log_bench. The C compiler `cc` makes the log's yardstick.
 
 The status is 1 where a run doesn't end with status 0, doesn't report one line a mail, or refuses a mail. Linux only.
-By default some 500 MB are needed in the temporary directory (TMPDIR says where).
+By default some 500 MB are needed in the temporary directory (TMPDIR says where), which `log` wants on a disk, and 600 MB in
+/dev/shm for `log`.
 """
 
 import argparse
@@ -90,7 +96,10 @@ CRATES = Path(__file__).resolve().parents[1] / "crates"
 PROGRAM = CRATES / "james_cli/out/james_cli"
 YARDSTICK = CRATES / "toml_yardstick/out/toml_yardstick"
 QUEUE = CRATES / "ready_bench/out/ready_bench"
-SHAPES = ("small", "large", "rate", "heads", "recipients", "hops", "processors", "plan", "queue")
+LOG = CRATES / "log_bench/out/log_bench"
+APPEND = Path(__file__).resolve().parent / "append.c"
+IN_MEMORY = Path("/dev/shm")
+SHAPES = ("small", "large", "rate", "heads", "recipients", "hops", "processors", "plan", "queue", "log")
 
 MAX_FILE = 16_777_216
 LONG_HEAD = 65_000
@@ -100,7 +109,7 @@ SHORT_HEAD = b"Subject: hi\r\n"
 # The shell tells the number of a process that will become the program, and ends; this process then adopts that one,
 # lets it go on by closing its input, and waits for it. Were the program started from here directly, Linux would count
 # the memory of this process into the program's ru_maxrss.
-START_PROGRAM = 'exec 3<&0; { read go <&3; exec "$1" "$2" 3<&-; } > "$3" & echo $!'
+START_PROGRAM = 'exec 3<&0; output=$1; shift; { read go <&3; exec "$@" 3<&-; } > "$output" & echo $!'
 PR_SET_CHILD_SUBREAPER = 36
 
 
@@ -111,6 +120,8 @@ class Fault(Exception):
 class Run(NamedTuple):
     seconds: float
     peak: int  # KiB
+    user: float = 0  # seconds of the processor outside the system
+    reads: int = 0  # calls that read
 
 
 # ---- Mails
@@ -166,26 +177,34 @@ def adopt_orphans():
 
 
 def wait_for(process):
-    """The exit status of a process and what it used. It doesn't outlive an interrupt."""
+    """Waits for the end of a process, which doesn't outlive an interrupt."""
     try:
-        _, status, usage = os.wait4(process, 0)
+        os.waitid(os.P_PID, process, os.WEXITED | os.WNOWAIT)
     except KeyboardInterrupt:
         os.kill(process, signal.SIGKILL)
         raise
-    return os.waitstatus_to_exitcode(status), usage
 
 
-def run_program(program, word, output, folder):
-    """Runs a program with one word in a folder, its output to a file; its exit status, and what it took."""
-    command = ["sh", "-c", START_PROGRAM, "sh", program, word, output]
+def reads_of(process):
+    """How often a process that has ended called to read."""
+    fields = dict(line.split(": ") for line in Path(f"/proc/{process}/io").read_text().splitlines())
+    return int(fields["syscr"])
+
+
+def run_program(program, words, output, folder):
+    """Runs a program with words in a folder, its output to a file; its exit status, and what it took."""
+    command = ["sh", "-c", START_PROGRAM, "sh", output, program, *words]
     pipe = subprocess.PIPE
     with subprocess.Popen(command, cwd=folder, stdin=pipe, stdout=pipe) as shell:
         process = int(shell.stdout.read())
         shell.wait()
         start = time.perf_counter()
         shell.stdin.close()
-        status, usage = wait_for(process)
-        return status, Run(time.perf_counter() - start, usage.ru_maxrss)
+        wait_for(process)
+        seconds = time.perf_counter() - start
+        reads = reads_of(process)
+        _, status, usage = os.wait4(process, 0)
+        return os.waitstatus_to_exitcode(status), Run(seconds, usage.ru_maxrss, usage.ru_utime, reads)
 
 
 class Folder:
@@ -220,7 +239,7 @@ class Folder:
 
     def run_once(self):
         self.clear()
-        status, run = run_program(self.program, "run", self.report, self.path)
+        status, run = run_program(self.program, ["run"], self.report, self.path)
         self.check(status)
         return run
 
@@ -271,8 +290,10 @@ def rounds_of(count, *runs):
 
 
 def best(rounds, run):
-    """The best time and the worst peak of a run."""
-    return Run(min(each[run].seconds for each in rounds), max(each[run].peak for each in rounds))
+    """The best times, the worst peak and the most reads of a run."""
+    taken = [each[run] for each in rounds]
+    return Run(min(each.seconds for each in taken), max(each.peak for each in taken), min(each.user for each in taken),
+               max(each.reads for each in taken))
 
 
 def ratio(rounds, run, by, above=None):
@@ -285,11 +306,19 @@ def ratio(rounds, run, by, above=None):
     return statistics.median(seconds(each, run, empty) / seconds(each, by, empty_by) for each in rounds)
 
 
+def cat_file(file):
+    """The time in which `cat` reads a file."""
+    start = time.perf_counter()
+    subprocess.run(["cat", file], stdout=subprocess.DEVNULL, check=True)
+    return Run(time.perf_counter() - start, 0)
+
+
 class Bench:
     def __init__(self, given, root):
         self.james = given.james.resolve()
         self.yardstick = given.yardstick.resolve()
         self.ready = given.queue.resolve()
+        self.log_program = given.log.resolve()
         self.rounds = given.rounds
         self.keep = given.keep
         self.mails = given.mails
@@ -427,7 +456,6 @@ class Bench:
         for folder in folders:
             folder.remove()
 
-
     def queue(self):
         """The due queue is filled, the latest pair first, and emptied, beside one of ten pairs."""
         counts = (10, 100_000, 1_000_000)
@@ -440,9 +468,81 @@ class Bench:
                 f"{(run.peak - small.peak) * 1024 / count:.1f}")
 
     def queue_once(self, count):
-        status, run = run_program(self.ready, str(count), self.root / "queue", self.root)
+        status, run = run_program(self.ready, [str(count)], self.root / "queue", self.root)
         if status != 0:
             raise Fault(f"the queue of {count} pairs: status {status}")
+        return run
+
+    def log(self):
+        self.appends()
+        with tempfile.TemporaryDirectory(prefix="james-bench-", dir=IN_MEMORY) as folder:
+            self.user_time(Path(folder))
+            self.opens(Path(folder))
+            self.opens_by_cat(Path(folder))
+
+    def appends(self):
+        """Payloads are added to a log on a disk, one by one and in groups, beside the yardstick."""
+        yardstick = self.root / "append"
+        subprocess.run(["cc", "-O2", "-o", yardstick, APPEND], check=True)
+        commands = [self.log_program, "append"], [yardstick]
+        title("log: payloads added on a disk", "a payload", "by the yardstick")
+        for length, groups in ((200, 300), (4_096, 200), (65_536, 30)):
+            for count, group in ((500, 1), (groups, 64)):
+                rounds = self.measure(*[lambda command=command: self.append_once(command, self.root, length, count, group)
+                                        for command in commands])
+                name = f"{length:,} bytes" + (f", in groups of {group}" if group > 1 else "")
+                row(name, f"{best(rounds, 0).seconds / (count * group) * 1e6:,.1f} us", times(ratio(rounds, 0, 1)))
+
+    def user_time(self, folder):
+        """The user time of an append is that of many runs' above that of few."""
+        few, many = 10_000, 210_000
+        rounds = self.measure(*[lambda count=count: self.append_once([self.log_program, "append"], folder, 200, count, 1)
+                                for count in (few, many)])
+        user = statistics.median(each[1].user - each[0].user for each in rounds) / (many - few)
+        title("log: appends of 200 bytes in memory")
+        row("user time of an append", f"{user * 1e6:.2f} us")
+
+    def opens(self, folder):
+        """Logs of many payloads are opened."""
+        counts = (50, 100_000, 1_000_000)
+        files = [self.log_of(folder, 200, count // 50, 50) for count in counts]
+        rounds = self.measure(*[lambda file=file: self.open_once(file) for file in files])
+        title("log: opened, of 200 bytes each", "time", "by 100,000", "reads", "bytes")
+        small = best(rounds, 0)
+        for at, count in list(enumerate(counts))[1:]:
+            run = best(rounds, at)
+            row(f"{count:,} payloads", f"{run.seconds * 1000:.1f} ms", times(ratio(rounds, at, 1)),
+                f"{(run.reads - small.reads) / (count - counts[0]):.2f} each",
+                f"{(run.peak - small.peak) * 1024 / (count - counts[0]):.1f} each")
+        for file in files:
+            file.unlink()
+
+    def opens_by_cat(self, folder):
+        file = self.log_of(folder, 65_536, 40, 100)
+        rounds = self.measure(lambda: self.open_once(file), lambda: cat_file(file))
+        title("log: opened, 4,000 of 65,536 bytes", "time", "by cat")
+        row(f"{file.stat().st_size:,} bytes", f"{best(rounds, 0).seconds * 1000:.1f} ms", times(ratio(rounds, 0, 1)))
+
+    def log_of(self, folder, *amount):
+        """A file with the log of so many payloads."""
+        file = folder / "-".join(map(str, amount))
+        self.run_log([self.log_program, "append", file, *amount])
+        return file
+
+    def append_once(self, command, folder, *amount):
+        file = folder / "log"
+        run = self.run_log([*command, file, *amount])
+        file.unlink()
+        return run
+
+    def open_once(self, file):
+        return self.run_log([self.log_program, "open", file])
+
+    def run_log(self, command):
+        program, *words = map(str, command)
+        status, run = run_program(program, words, self.root / "log.says", self.root)
+        if status != 0:
+            raise Fault(f"status {status} of {program} {' '.join(words)}")
         return run
 
 
@@ -460,12 +560,15 @@ def arguments():
                         help="the built program that only parses TOML (default: that of crates/toml_yardstick)")
     parser.add_argument("--queue", type=Path, default=QUEUE, metavar="PATH",
                         help="the built program that fills and empties a due queue (default: that of crates/ready_bench)")
+    parser.add_argument("--log", type=Path, default=LOG, metavar="PATH",
+                        help="the built program that adds to a log and opens it (default: that of crates/log_bench)")
     parser.add_argument("--keep", action="store_true", help="keep the folders and say where they are")
     given = parser.parse_args()
     if given.mails < 1 or given.size < 0 or given.rounds < 1:
         parser.error("N and ROUNDS are at least 1, BYTES at least 0")
     given.shape = given.shape or SHAPES
-    programs = [given.james] + [given.yardstick] * ("plan" in given.shape) + [given.queue] * ("queue" in given.shape)
+    of_shapes = {"plan": given.yardstick, "queue": given.queue, "log": given.log}
+    programs = [given.james] + [program for shape, program in of_shapes.items() if shape in given.shape]
     for program in programs:
         if not os.access(program, os.X_OK):
             parser.error(f"no program at {program}")
