@@ -1,6 +1,7 @@
 -- What a text says as a domain or as an address, or its first fault.
-use Rattle.std.specs.Prelude.{◌≡◌, ℕ, List, ◌∷◌, ◌++◌, Bool, ◌==◌, nat_lt, length, Result, Ok, Err, if◌then◌else◌}
+use Rattle.std.specs.Prelude.{ℕ, List, ◌∷◌, ◌++◌, Bool, ◌==◌, nat_lt, length, Option, Some, None, Result, Ok, Err, if◌then◌else◌}
 use Rattle.std.specs.List.{list_any, before_last, after_last}
+use Rattle.mj_terms.specs.Answers.{GivesBy}
 use Rattle.mj_address.specs.declared.fault.AddressFault.{AddressFault}
 use Rattle.mj_address.specs.declared.fault.AddressFault.TheVariants.{NoAt, LocalTooLong, BadLocal, DomainTooLong, BadDomain, Memory}
 use Rattle.mj_address.specs.Grammar.{is_dot_atom, is_dotted_labels}
@@ -33,12 +34,11 @@ address_of text =
     if list_any is_at text then both_parts (local_of (before_last is_at text)) (domain_of (after_last is_at text))
     else Err NoAt
 
+-- a fault but want of memory
+abbrev pub told : AddressFault → Option AddressFault
+told Memory = None
+told fault = Some fault
+
 -- A call's answer is what the definition says. Only want of memory comes beside it.
 abbrev pub Gives : {X : Type 0} → Result X AddressFault → Result X AddressFault → Type 0
-Gives (Ok value) definition = definition ≡ Ok value
-Gives (Err NoAt) definition = definition ≡ Err NoAt
-Gives (Err LocalTooLong) definition = definition ≡ Err LocalTooLong
-Gives (Err BadLocal) definition = definition ≡ Err BadLocal
-Gives (Err DomainTooLong) definition = definition ≡ Err DomainTooLong
-Gives (Err BadDomain) definition = definition ≡ Err BadDomain
-Gives (Err Memory) definition = Unit {0}
+Gives answer definition = GivesBy told (λ x. x) answer definition

@@ -5,7 +5,8 @@ ghost use Rattle.std.specs.Str.{bytes_eq};
 ghost use Rattle.toml.specs.View.{view, table_view};
 ghost use Rattle.mj_plan.specs.Sound.{is_reserved};
 ghost use Rattle.mj_config_walk.specs.Values.{GivesBy};
-ghost use Rattle.mj_config_walk.specs.Walk.{◌then◌, Answers, AnswersBy, header_of, headers_from, located, names_of, new_name, processors_from, processors_of};
+ghost use Rattle.mj_terms.specs.Answers.{◌>>=◌ as ◌then◌};
+ghost use Rattle.mj_config_walk.specs.Walk.{Answers, AnswersBy, header_of, headers_from, located, names_of, new_name, processors_from, processors_of};
 ghost use Rattle.mj_config.specs.Seen.{header_seen};
 ghost use Rattle.mj_config_walk.specs.declared.fault.PlanFault.TheVariants.{Refused};
 

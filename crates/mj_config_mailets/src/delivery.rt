@@ -1,11 +1,10 @@
 //! The parameters of remote delivery.
 ghost use Rattle.std.specs.Prelude.{◌≡◌, ◌≤◌, codes, length};
-ghost use Rattle.std.specs.Option.{option_copied, ForSome};
+ghost use Rattle.std.specs.Option.{option_copied};
 ghost use Rattle.toml.specs.Data.{get_member};
 ghost use Rattle.toml.specs.View.{view, table_view};
-ghost use Rattle.mj_delays.specs.Schedule.{schedule_of};
 ghost use Rattle.mj_config_walk.specs.Values.{Gives, GivesBy, domain_value, maybe, number, optional, text};
-ghost use Rattle.mj_config_walk.specs.Mailets.{target_value, new_outgoing, outgoing_param, in_schedule, schedule, schedule_param};
+ghost use Rattle.mj_config_walk.specs.Mailets.{target_value, new_outgoing, outgoing_param, schedule, schedule_param};
 
 use crate::params::{param_or, target_value};
 use mj_address::Domain;
@@ -15,9 +14,6 @@ use mj_delays::{Schedule, ScheduleFault};
 use mj_fields::Bytes;
 use std::alloc::Global;
 use toml::{Table, Value};
-
-/// The most bytes that a delay text may have.
-const LONGEST_DELAYS: usize = 1_048_576;
 
 /// The name of a remote delivery, which no earlier one has.
 pub(crate) fn outgoing_param(alloc: Global, taken: &Names, step: &Table) -> Result<Bytes, Refusal>
@@ -66,26 +62,7 @@ fn max_retries(step: &Table) -> Result<u32, Refusal>
 fn schedule(alloc: Global, delays: Option<&[u8]>, retries: u32) -> Result<Schedule, Refusal>
     ensures { Gives result (schedule (option_copied delays.entry) retries) }
 {
-    match delays {
-        None => read_schedule(alloc, None, retries),
-        Some(text) => schedule_of_text(alloc, text, retries),
-    }
-}
-
-fn schedule_of_text(alloc: Global, text: &[u8], retries: u32) -> Result<Schedule, Refusal>
-    ensures { Gives result (schedule (Some text.now) retries) }
-{
-    if text.len() > LONGEST_DELAYS {
-        return Err(Refusal::Kind(PlanKind::BadArgument));
-    }
-    read_schedule(alloc, Some(text), retries)
-}
-
-fn read_schedule(alloc: Global, text: Option<&[u8]>, retries: u32) -> Result<Schedule, Refusal>
-    requires { ForSome text (λ bytes. length bytes.now ≤ 1_048_576) }
-    ensures { Gives result (in_schedule (schedule_of (option_copied text.entry) retries)) }
-{
-    match Schedule::read(alloc, text, retries) {
+    match Schedule::read(alloc, delays, retries) {
         Ok(schedule) => Ok(schedule),
         Err(ScheduleFault::Memory) => Err(Refusal::Memory),
         Err(_) => Err(Refusal::Kind(PlanKind::BadArgument)),

@@ -8,8 +8,9 @@ use Rattle.mj_config_walk.specs.declared.fault.PlanKind.{PlanKind}
 use Rattle.mj_config_walk.specs.declared.fault.PlanKind.TheVariants.{BadArgument}
 use Rattle.mj_config_walk.specs.declared.fault.PlanFault.{PlanFault}
 use Rattle.mj_config_walk.specs.declared.fault.PlanFault.TheVariants.{Refused}
-use Rattle.mj_config_walk.specs.Walk.{located, ◌then◌}
-use Rattle.mj_config_walk.specs.Values.{◌>>=◌, checked, some_or, optional, maybe, text, formed, each, each_text}
+use Rattle.mj_terms.specs.Answers.{◌>>=◌}
+use Rattle.mj_config_walk.specs.Walk.{located}
+use Rattle.mj_config_walk.specs.Values.{checked, some_or, optional, maybe, text, formed, each, each_text}
 
 -- each value that the reading gives has this property
 pub record Holds {X E : Type 0} (Q : X → Type 0) (r : Result X E) : Type 0 where
@@ -88,6 +89,6 @@ pub located_of : {X : Type 0} {Q : X → Type 0} (processor step : ℕ) {r : Res
 located_of processor step {r = Ok x} h = ok x (h.of x refl)
 located_of processor step {r = Err kind} h = err (Refused kind processor step)
 
-pub after : {A B : Type 0} {P : A → Type 0} {Q : B → Type 0} {r : Result A PlanFault} {next : A → Result B PlanFault} → Holds P r → ((x : A) → P x → Holds Q (next x)) → Holds Q (r then next)
+pub after : {A B : Type 0} {P : A → Type 0} {Q : B → Type 0} {r : Result A PlanFault} {next : A → Result B PlanFault} → Holds P r → ((x : A) → P x → Holds Q (next x)) → Holds Q (r >>= next)
 after {r = Ok x} h k = k x (h.of x refl)
 after {r = Err fault} h k = err fault

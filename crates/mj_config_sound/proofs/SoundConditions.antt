@@ -15,14 +15,14 @@ use Rattle.mj_plan.specs.Sound.{is_between, has_items, is_condition}
 use Rattle.mj_config_walk.specs.declared.fault.PlanKind.{PlanKind}
 use Rattle.mj_config_walk.specs.declared.fault.PlanKind.TheVariants.{BadArgument, UnknownMatcher}
 use Rattle.mj_config_walk.specs.Values.{some_or, formed, address, domain, is_filled}
-use Rattle.mj_terms.specs.Text.{trimmed}
+use Rattle.mj_terms.specs.Text.{before, behind_byte, trimmed}
 use Rattle.mj_config_walk.specs.declared.names.Argued.{Argued}
 use Rattle.mj_config_walk.specs.declared.names.Argued.TheVariants as argued
 use Rattle.mj_config_walk.specs.declared.names.Name.{Name}
 use Rattle.mj_config_walk.specs.declared.names.Name.TheVariants as name
 use Rattle.mj_config_walk.specs.declared.names.Plain.{Plain}
 use Rattle.mj_config_walk.specs.declared.names.Plain.TheVariants as plain
-use Rattle.mj_config_walk.specs.Arguments.{items, before, behind, words, relation, without_unit, last, digits, count, size, unit, listed, header, attribute_value, comparison, bare, given, whole_text}
+use Rattle.mj_config_walk.specs.Arguments.{items, words, relation, without_unit, last, digits, count, size, unit, listed, header, attribute_value, comparison, bare, given, whole_text}
 use Rattle.mj_config_walk.specs.Conditions.{trimmed_argument, plain_condition, argued_condition, made, named, known, name_in, name_rows, condition_named, condition}
 use Rattle.mj_config_sound.proofs.Holds.{Holds, ok, err, bind, skip, checks, some, form_of, each_of, weaken}
 
@@ -92,11 +92,11 @@ made_of : {X : Type 0} {P : X → Type 0} (build : X → Condition) (form : List
 made_of build form s h good = bind h (λ x k. ok (build x) (good x k))
 
 header_of : (s : List ℕ) → Form (header s)
-header_of s = bind (form_of is_field_name (before 61 s)) (λ field h. ok (HasHeader field (behind 61 s)) h)
+header_of s = bind (form_of is_field_name (before 61 s)) (λ field h. ok (HasHeader field (behind_byte 61 s)) h)
 
 attribute_of : (s : List ℕ) → Form (attribute_value s)
 attribute_of s =
-    skip (some_or BadArgument (behind 44 s)) (λ value.
+    skip (some_or BadArgument (behind_byte 44 s)) (λ value.
     bind (form_of is_attribute_name (trimmed (before 44 s))) (λ name h.
     bind (form_of is_attribute_value (trimmed value)) (λ value k. ok (HasMailAttributeWithValue name value) (rw (h, k)))))
 
@@ -153,4 +153,4 @@ pub condition_named_of : (s : List ℕ) (argument : Option (List ℕ)) → Form 
 condition_named_of s argument = known_of (name_in name_rows s) argument
 
 pub condition_of : (s : List ℕ) → Form (condition s)
-condition_of s = condition_named_of (before 61 s) (trimmed_argument (behind 61 s))
+condition_of s = condition_named_of (before 61 s) (trimmed_argument (behind_byte 61 s))

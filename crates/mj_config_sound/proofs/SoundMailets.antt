@@ -8,7 +8,7 @@ use Rattle.std.specs.List.{list_all, list_any}
 use Rattle.std.specs.Option.{option_map_or}
 use Rattle.std.specs.Str.{bytes_eq}
 use Rattle.toml.specs.Data.{Data, table, Members, no_members, member, get_member, is_before, is_sorted, members_are_sorted}
-use Rattle.mj_terms.specs.Text.{trimmed}
+use Rattle.mj_terms.specs.Text.{before, behind_byte, trimmed}
 use Rattle.mj_head.specs.Head.{is_field_name}
 use Rattle.mj_plan.specs.declared.mailet.MailetKind.{MailetKind}
 use Rattle.mj_plan.specs.declared.mailet.MailetKind.TheVariants.{ToProcessor, Null, SetMailAttribute, RemoveMailAttribute, RemoveAllMailAttributes, SetMimeHeader, RemoveMimeHeader, MailAttributesToMimeHeaders, AddSubjectPrefix, RecipientToLowerCase, PostmasterAlias, RecipientRewriteTable, Forward, Bounce, NotifyPostmaster, LocalDelivery, ToRepository, RemoteDelivery, Fail}
@@ -18,7 +18,7 @@ use Rattle.mj_plan.specs.Sound.{is_between, has_items, are_items, is_target, asc
 use Rattle.mj_config_walk.specs.declared.fault.PlanKind.{PlanKind}
 use Rattle.mj_config_walk.specs.declared.fault.PlanKind.TheVariants.{WrongType, Twice, UnknownClass, UnknownProcessor, BadArgument, TooMany}
 use Rattle.mj_config_walk.specs.Values.{required, maybe, some_or, text, texts, formed, target, address, domain_value, each, few, is_filled}
-use Rattle.mj_config_walk.specs.Arguments.{before, behind, is_comma, items}
+use Rattle.mj_config_walk.specs.Arguments.{is_comma, items}
 use Rattle.mj_config_walk.specs.Mailets.{param, formed_value, target_value, list_text, names_param, named_texts, table_of_texts, attribute, attributes_param, header_mapping, mapping_param, forward_param, pass_through, outgoing_param, schedule_param, to_processor, set_mail_attribute, remove_mail_attribute, set_mime_header, remove_mime_header, attributes_to_headers, add_subject_prefix, forward, bounce, notify_postmaster, to_repository, remote_delivery, fail}
 use Rattle.mj_config_walk.specs.declared.classes.Class.{Class}
 use Rattle.mj_config_walk.specs.declared.classes.Class.TheVariants as class
@@ -52,7 +52,7 @@ names_param_of form step =
 
 header_mapping_of : (s : List ℕ) → Holds (λ named. is_header_mapping named ≡ true) (header_mapping s)
 header_mapping_of s =
-    skip (some_or BadArgument (behind 59 s)) (λ field.
+    skip (some_or BadArgument (behind_byte 59 s)) (λ field.
     bind (form_of is_attribute_name (before 59 s)) (λ name h.
     bind (form_of is_field_name field) (λ field k. ok (record { name = name; value = field }) (rw (h, k)))))
 

@@ -1,27 +1,30 @@
 -- The moment, the limit of hops and the rewrite rows that a document is read to have their forms.
-use Rattle.std.proofs.Common.{◌≡◌, ℕ, ◌<◌, true, List, [], ◌∷◌, length, Option, Some, None, Result, Ok, Err, refl, ap, ◌∙◌, ◌&&◌, arith}
-use Rattle.std.specs.Prelude.{nat_le, codes}
+use Rattle.std.proofs.Common.{◌≡◌, ℕ, ◌<◌, ◌≤◌, Bool, true, false, List, [], ◌∷◌, length, Option, Some, None, Result, Ok, Err, refl, ap, ◌∙◌, ◌&&◌, arith}
+use Rattle.std.specs.Prelude.{nat_le, nat_lt, if◌then◌else◌, codes}
 use Rattle.std.proofs.lemmas.Bool.Decides.{nat_tests}
 use Rattle.std.specs.List.{list_all}
 use Rattle.toml.specs.Data.{Data, Items, Members, get_member}
+use Rattle.mj_address.specs.declared.fault.AddressFault.TheVariants.{LocalTooLong, BadLocal}
+use Rattle.mj_address.specs.Grammar.{is_dot_atom}
 use Rattle.mj_time.specs.declared.moments.MomentFault.{MomentFault}
 use Rattle.mj_time.specs.Moment.{moment_of}
 use Rattle.mj_time.proofs.Bounds.{moment_small}
 use Rattle.mj_plan.specs.declared.plan.Mapping.{Mapping}
 use Rattle.mj_plan.specs.declared.plan.Mapping.TheVariants as mapping
 use Rattle.mj_plan.specs.Forms.{is_line}
-use Rattle.mj_plan.specs.Sound.{is_between, has_items, is_mapping}
+use Rattle.mj_plan.specs.Sound.{is_between, has_items, is_mapping, is_user}
 use Rattle.mj_config_walk.specs.declared.fault.PlanKind.{PlanKind}
-use Rattle.mj_config_walk.specs.declared.fault.PlanKind.TheVariants.{Missing, BadArgument, BadMoment, TooMany}
+use Rattle.mj_config_walk.specs.declared.fault.PlanKind.TheVariants.{Missing, BadAddress, BadArgument, BadMoment, TooMany}
 use Rattle.mj_config_walk.specs.declared.spool.Spool.{Spool}
-use Rattle.mj_config_walk.specs.Values.{required, text, texts, number, whole, in_moment, address, domain, each, each_text, tables}
-use Rattle.mj_config_walk.specs.Walk.{table_or_none, moment_value, owner_in, locals_in, bounds_in, spool_of, spool_in, tables_or_none, addresses_row, error_row, host_row, host_row_or_none, row_with, mapping_of, rewrite_of, targets}
-use Rattle.mj_config_sound.proofs.Holds.{Holds, ok, err, bind, skip, checks, form_of, optional_of}
+use Rattle.mj_config_walk.specs.Values.{required, text, texts, number, whole, in_moment, address, domain, each, each_text, tables, in_address, local_part}
+use Rattle.mj_config_walk.specs.Walk.{table_or_none, moment_value, each_value, needed, owner_in, locals_in, bounds_in, spool_of, spool_in, tables_or_none, addresses_row, error_row, host_row, host_row_or_none, row_with, mapping_of, rewrite_of, targets}
+use Rattle.mj_config_sound.proofs.Holds.{Holds, ok, err, bind, skip, checks, each_text_of, form_of, optional_of}
 
 -- ---- [spool]
 
--- the moment, and the limit of hops
+-- the users, the moment, and the limit of hops
 pub record IsSpool (spool : Spool) : Type 0 where
+  pub local_users : list_all is_user spool.local_users ≡ true
   pub start : spool.start < 4_133_980_800_000
   pub max_hops : is_between 1 1_000 spool.max_hops ≡ true
 
@@ -46,13 +49,33 @@ bounds_in_of members =
     bind (optional_of {Q = λ n. is_between 1 1_000 n ≡ true} 100 (number 1 1_000) (get_member (codes "max_hops") members) refl (number_of 1 1_000)) (λ max_hops k.
     ok (start, max_hops) (record { start = h; max_hops = k })))
 
+user_by : (name : List ℕ) (long formed : Bool) → nat_lt 64 (length name) ≡ long → is_dot_atom name ≡ formed
+    → Holds (λ user. is_user user ≡ true) (in_address (if long then Err LocalTooLong else (if formed then Ok name else Err BadLocal)))
+user_by name true formed e f = err BadAddress
+user_by name false false e f = err BadAddress
+user_by name false true e f =
+    let short : nat_le (length name) 64 ≡ true = grind (arith, nat_tests) in
+    ok name (rw (short, f))
+
+user_of : (name : List ℕ) → Holds (λ user. is_user user ≡ true) (local_part name)
+user_of name = user_by name (nat_lt 64 (length name)) (is_dot_atom name) refl refl
+
+users_of : (value : Data) → Holds (λ users. list_all is_user users ≡ true) (each_value local_part value)
+users_of value = skip (texts value) (each_text_of is_user local_part user_of)
+
+locals_in_of : (members : Members) → Holds (λ served. list_all is_user served.1 ≡ true) (locals_in members)
+locals_in_of members =
+    skip (needed (codes "local_hosts") (each_value domain) members) (λ hosts.
+    bind (skip (required (codes "local_users") members) users_of) (λ users h.
+    ok (hosts, users) h))
+
 spool_of_of : (members : Members) → Holds IsSpool (spool_of members)
 spool_of_of members =
     skip (owner_in members) (λ owner.
-    skip (locals_in members) (λ served.
+    bind (locals_in_of members) (λ served users.
     bind (bounds_in_of members) (λ bounds h.
     ok (record { host_name = owner.0; postmaster = owner.1; local_hosts = served.0; local_users = served.1; start = bounds.0; max_hops = bounds.1 })
-    (record { start = h.start; max_hops = h.max_hops }))))
+    (record { local_users = users; start = h.start; max_hops = h.max_hops }))))
 
 pub spool_sound : (value : Option Data) → Holds IsSpool (spool_in value)
 spool_sound value = skip (table_or_none value) spool_of_of

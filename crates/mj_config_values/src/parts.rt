@@ -2,7 +2,8 @@
 //! them. The first item that is refused is the fault of the list.
 ghost use Rattle.std.specs.Prelude.{◌≡◌, ◌∷◌, ◌==◌, ◌<◌, ◌≤◌, length, position, IfSome};
 ghost use Rattle.std.specs.Option.{option_copied};
-ghost use Rattle.mj_config_walk.specs.Arguments.{before, behind, items};
+ghost use Rattle.mj_terms.specs.Text.{before, behind_byte};
+ghost use Rattle.mj_config_walk.specs.Arguments.{items};
 ghost use Rattle.mj_config_walk.specs.Values.{Gives, each, address, domain, few, formed};
 ghost use Rattle.mj_config_values.specs.Forms.{has_form};
 ghost use Rattle.mj_config_walk.specs.Rest.{items_in, left};
@@ -19,7 +20,7 @@ use std::alloc::Global;
 #[tactic(auto, using(mj_config_walk::proofs::Cuts::before_found, mj_config_walk::proofs::Cuts::behind_found, mj_config_walk::proofs::Cuts::before_none, mj_config_walk::proofs::Cuts::behind_none))]
 pub fn cut(sign: u8, text: &[u8]) -> (&[u8], Option<&[u8]>)
     ensures before { result.0.now ≡ before sign text.now }
-    ensures behind { option_copied result.1 ≡ behind sign text.now }
+    ensures behind { option_copied result.1 ≡ behind_byte sign text.now }
 {
     match place_of(sign, text) {
         Some(place) => (&text[..place], Some(&text[place + 1..])),

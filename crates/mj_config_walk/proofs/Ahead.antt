@@ -2,7 +2,8 @@
 use Rattle.std.proofs.Common.{◌≡◌, ◌∙◌, ℕ, ◌+◌, ◌<◌, refl, sym, ap, get_or, List, [], ◌∷◌, ◌++◌, length, drop, map, Result, Ok, Err}
 use Rattle.std.proofs.lemmas.List.{append_assoc, at_drop_more}
 use Rattle.mj_config_walk.specs.declared.fault.PlanKind.{PlanKind}
-use Rattle.mj_config_walk.specs.Values.{◌>>=◌, each}
+use Rattle.mj_terms.specs.Answers.{◌>>=◌}
+use Rattle.mj_config_walk.specs.Values.{each}
 
 abbrev pub ahead : {X E : Type 0} → List X → Result (List X) E → Result (List X) E
 ahead so_far (Ok xs) = Ok (so_far ++ xs)

@@ -4,7 +4,8 @@ use Rattle.std.specs.List.{list_all}
 use Rattle.mj_plan.specs.declared.mailet.Named.{Named}
 use Rattle.mj_plan.specs.Forms.{is_attribute_name, is_attribute_value}
 use Rattle.mj_config_walk.specs.declared.fault.PlanKind.TheVariants.{BadArgument}
-use Rattle.mj_config_walk.specs.Values.{◌>>=◌, checked, each}
+use Rattle.mj_terms.specs.Answers.{◌>>=◌}
+use Rattle.mj_config_walk.specs.Values.{checked, each}
 use Rattle.mj_config_walk.specs.Mailets.{attribute}
 
 both : (good all : Bool) (first : Named) (rest : List Named)

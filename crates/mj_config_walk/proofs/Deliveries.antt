@@ -15,7 +15,8 @@ use Rattle.mj_config_walk.specs.declared.classes.Class.TheVariants as class
 use Rattle.mj_config_walk.specs.Classes.{of_class}
 use Rattle.mj_config_walk.specs.Mailets.{attributes_param, formed_value, forward_param, mapping_param, names_param, new_outgoing, param, pass_through, schedule_param, target_value}
 use Rattle.mj_config_walk.specs.Deliveries.{IsNew}
-use Rattle.mj_config_walk.specs.Values.{◌>>=◌, Gives, checked, domain_value, maybe, optional, required}
+use Rattle.mj_terms.specs.Answers.{◌>>=◌}
+use Rattle.mj_config_walk.specs.Values.{Gives, checked, domain_value, maybe, optional, required}
 
 module _ (taken : List (List ℕ)) where
   abbrev Fresh : Result MailetKind PlanKind → Type 0

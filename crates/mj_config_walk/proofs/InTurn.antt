@@ -7,17 +7,18 @@ use Rattle.toml.specs.Data.{Members}
 use Rattle.mj_plan.specs.declared.plan.Step.{Step}
 use Rattle.mj_config_walk.specs.declared.fault.PlanFault.{PlanFault}
 use Rattle.mj_config_walk.proofs.Ahead.{ahead}
-use Rattle.mj_config_walk.specs.Walk.{◌then◌, deliveries, located, step_of, steps_from}
+use Rattle.mj_terms.specs.Answers.{◌>>=◌}
+use Rattle.mj_config_walk.specs.Walk.{deliveries, located, step_of, steps_from}
 
 -- with one more so far
 pub ahead_then : {X : Type 0} (so_far : List X) (x : X) (rest : Result (List X) PlanFault)
-    → ahead so_far (rest then λ xs. Ok (x ∷ xs)) ≡ ahead (so_far ++ x ∷ []) rest
+    → ahead so_far (rest >>= λ xs. Ok (x ∷ xs)) ≡ ahead (so_far ++ x ∷ []) rest
 ahead_then so_far x (Ok xs) = rw (append_assoc so_far (x ∷ []) xs)
 ahead_then so_far x (Err fault) = refl
 
 -- A walk over a list, whose step says what is read of its front, and what the rest is then.
 pub walk_next : {R A X : Type 0} (walk : List A → Result (List X) PlanFault) (rest : Result (List X) PlanFault) (seen : R → A) (list : List R) (k : ℕ) (r : R) (so_far more : List X) (x : X)
-    → k < length list → r ≡ get_or list k r → (walk (seen r ∷ map seen (drop (k + 1) list)) ≡ (rest then λ xs. Ok (x ∷ xs))) → more ≡ so_far ++ x ∷ []
+    → k < length list → r ≡ get_or list k r → (walk (seen r ∷ map seen (drop (k + 1) list)) ≡ (rest >>= λ xs. Ok (x ∷ xs))) → more ≡ so_far ++ x ∷ []
     → ahead so_far (walk (map seen (drop k list))) ≡ ahead more rest
 walk_next walk rest seen list k r so_far more x within at read grown =
     at_drop_more (λ left. ahead so_far (walk (map seen left))) list k r within
@@ -28,7 +29,7 @@ walk_next walk rest seen list k r so_far more x within at read grown =
 
 -- steps: the first one is read
 pub step_read : (names taken : List (List ℕ)) (processor number : ℕ) (step : Step) (table : Members) (rest : List Members) → located processor number (step_of names taken table) ≡ Ok step
-    → steps_from names taken processor number (table ∷ rest) ≡ (steps_from names (taken ++ deliveries (step ∷ [])) processor (number + 1) rest then λ steps. Ok (step ∷ steps))
+    → steps_from names taken processor number (table ∷ rest) ≡ (steps_from names (taken ++ deliveries (step ∷ [])) processor (number + 1) rest >>= λ steps. Ok (step ∷ steps))
 step_read names taken processor number step table rest read = rw read
 
 -- one step more, and the names of remote deliveries that are taken then
@@ -50,5 +51,5 @@ step_next seen names taken now processor list k number r steps more step within 
     let here : located processor (k + 1) (step_of names taken (seen r)) ≡ Ok step = ap (λ n. located processor n (step_of names taken (seen r))) (sym numbered) ∙ read in
     walk_next (steps_from names taken processor (k + 1)) (steps_from names now processor (k + 1 + 1) rest) seen list k r steps more step within at
     (step_read names taken processor (k + 1) step (seen r) rest here
-    ∙ ap (λ t. steps_from names t processor (k + 1 + 1) rest then λ others. Ok (step ∷ others)) (sym is))
+    ∙ ap (λ t. steps_from names t processor (k + 1 + 1) rest >>= λ others. Ok (step ∷ others)) (sym is))
     grown

@@ -4,7 +4,7 @@ use Rattle.std.specs.Char.{is_ascii_digit}
 use Rattle.std.specs.List.{list_all, slice_split}
 use Rattle.std.specs.Str.{bytes_eq}
 use Rattle.std.specs.Str.Parse.{digits_value}
-use Rattle.mj_terms.specs.Text.{trimmed}
+use Rattle.mj_terms.specs.Text.{before, behind_byte, trimmed}
 use Rattle.mj_head.specs.Head.{is_field_name}
 use Rattle.mj_plan.specs.declared.condition.Condition.{Condition}
 use Rattle.mj_plan.specs.declared.condition.Condition.TheVariants.{HasHeader, HasMailAttributeWithValue, CompareNumericHeaderValue}
@@ -13,18 +13,10 @@ use Rattle.mj_plan.specs.declared.condition.Relation.TheVariants.{Less, AtMost, 
 use Rattle.mj_plan.specs.Forms.{is_attribute_name, is_attribute_value}
 use Rattle.mj_config_walk.specs.declared.fault.PlanKind.{PlanKind}
 use Rattle.mj_config_walk.specs.declared.fault.PlanKind.TheVariants.{BadArgument}
-use Rattle.mj_config_walk.specs.Values.{◌>>=◌, checked, some_or, formed, each, few, is_filled}
+use Rattle.mj_terms.specs.Answers.{◌>>=◌}
+use Rattle.mj_config_walk.specs.Values.{checked, some_or, formed, each, few, is_filled}
 
 -- ---- Parts of texts
-
--- the text up to the first such byte, and what stands behind that byte, if it is there
-abbrev pub before : ℕ → List ℕ → List ℕ
-before sign [] = []
-before sign (b ∷ s) = if b == sign then [] else b ∷ before sign s
-
-abbrev pub behind : ℕ → List ℕ → Option (List ℕ)
-behind sign [] = None
-behind sign (b ∷ s) = if b == sign then Some s else behind sign s
 
 -- the items between commas, without the blanks round them
 abbrev pub is_comma : ℕ → Bool
@@ -87,12 +79,12 @@ count s = do
 abbrev pub header : List ℕ → Result Condition PlanKind
 header s = do
   field ← formed is_field_name (before 61 s)
-  Ok (HasHeader field (behind 61 s))
+  Ok (HasHeader field (behind_byte 61 s))
 
 -- an attribute and its value with a comma between them
 abbrev pub attribute_value : List ℕ → Result Condition PlanKind
 attribute_value s = do
-  value ← some_or BadArgument (behind 44 s)
+  value ← some_or BadArgument (behind_byte 44 s)
   name ← formed is_attribute_name (trimmed (before 44 s))
   value ← formed is_attribute_value (trimmed value)
   Ok (HasMailAttributeWithValue name value)

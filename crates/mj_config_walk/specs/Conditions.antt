@@ -3,7 +3,7 @@ use Rattle.std.specs.Prelude.{ℕ, if◌then◌else◌, List, [], ◌∷◌, cod
 use Rattle.std.specs.Str.{bytes_eq}
 use Rattle.mj_plan.specs.declared.condition.Condition.{Condition}
 use Rattle.mj_plan.specs.declared.condition.Condition.TheVariants.{All, RecipientIs, RecipientIsLocal, HostIs, HostIsLocal, UserIs, SenderIs, SenderHostIs, SenderIsNull, SizeGreaterThan, SubjectIs, SubjectStartsWith, HasMailAttribute, RelayLimit, IsSingleRecipient, TooManyRecipients, IsRemoteDeliveryPermanentError, IsRemoteDeliveryTemporaryError, RemoteDeliveryFailedWithSMTPCode, Fail}
-use Rattle.mj_terms.specs.Text.{trimmed}
+use Rattle.mj_terms.specs.Text.{before, behind_byte, trimmed}
 use Rattle.mj_plan.specs.Forms.{is_attribute_name, is_reply_code}
 use Rattle.mj_config_walk.specs.declared.names.Argued.{Argued}
 use Rattle.mj_config_walk.specs.declared.names.Argued.TheVariants as argued
@@ -13,8 +13,9 @@ use Rattle.mj_config_walk.specs.declared.names.Plain.{Plain}
 use Rattle.mj_config_walk.specs.declared.names.Plain.TheVariants as plain
 use Rattle.mj_config_walk.specs.declared.fault.PlanKind.{PlanKind}
 use Rattle.mj_config_walk.specs.declared.fault.PlanKind.TheVariants.{UnknownMatcher}
-use Rattle.mj_config_walk.specs.Arguments.{attribute_value, bare, before, behind, comparison, count, given, header, listed, size, whole_text, words}
-use Rattle.mj_config_walk.specs.Values.{◌>>=◌, address, domain, formed, is_filled}
+use Rattle.mj_config_walk.specs.Arguments.{attribute_value, bare, comparison, count, given, header, listed, size, whole_text, words}
+use Rattle.mj_terms.specs.Answers.{◌>>=◌}
+use Rattle.mj_config_walk.specs.Values.{address, domain, formed, is_filled}
 
 -- one row a name
 abbrev pub name_rows : List (List ℕ × Name)
@@ -103,4 +104,4 @@ trimmed_argument None = None
 trimmed_argument (Some argument) = Some (trimmed argument)
 
 abbrev pub condition : List ℕ → Result Condition PlanKind
-condition s = condition_named (before 61 s) (trimmed_argument (behind 61 s))
+condition s = condition_named (before 61 s) (trimmed_argument (behind_byte 61 s))

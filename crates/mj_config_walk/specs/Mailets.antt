@@ -1,9 +1,9 @@
 -- Mailets: a class with its parameters. Here are the parameters, and what the classes read of them.
-use Rattle.std.specs.Prelude.{ℕ, nat_le, nat_lt, Bool, true, false, not, ◌&&◌, if◌then◌else◌, List, [], ◌∷◌, length, codes, Option, Some, None, Result, Ok, Err}
+use Rattle.std.specs.Prelude.{ℕ, nat_le, Bool, true, false, not, ◌&&◌, if◌then◌else◌, List, [], ◌∷◌, length, codes, Option, Some, None, Result, Ok, Err}
 use Rattle.std.specs.List.{list_any}
 use Rattle.std.specs.Str.{bytes_eq}
 use Rattle.toml.specs.Data.{Data, table, Members, no_members, member, get_member}
-use Rattle.mj_terms.specs.Text.{trimmed}
+use Rattle.mj_terms.specs.Text.{before, behind_byte, trimmed}
 use Rattle.mj_head.specs.Head.{is_field_name}
 use Rattle.mj_delays.specs.declared.schedules.ScheduleFault.{ScheduleFault}
 use Rattle.mj_delays.specs.Schedule.{schedule_of}
@@ -13,8 +13,9 @@ use Rattle.mj_plan.specs.declared.mailet.Named.{Named}
 use Rattle.mj_plan.specs.Forms.{is_attribute_name, is_attribute_value, is_line, is_processor_name, is_repository}
 use Rattle.mj_config_walk.specs.declared.fault.PlanKind.{PlanKind}
 use Rattle.mj_config_walk.specs.declared.fault.PlanKind.TheVariants.{WrongType, Twice, BadArgument, TooMany}
-use Rattle.mj_config_walk.specs.Values.{◌>>=◌, required, optional, maybe, checked, some_or, text, texts, number, truth, address, domain_value, formed, target, each, each_text, few, is_filled}
-use Rattle.mj_config_walk.specs.Arguments.{before, behind, items}
+use Rattle.mj_terms.specs.Answers.{◌>>=◌}
+use Rattle.mj_config_walk.specs.Values.{required, optional, maybe, checked, some_or, text, texts, number, truth, address, domain_value, formed, target, each, each_text, few, is_filled}
+use Rattle.mj_config_walk.specs.Arguments.{items}
 
 -- ---- Parameters
 
@@ -74,7 +75,7 @@ attributes_param step = do
 -- an attribute and a field with a semicolon between them
 abbrev pub header_mapping : List ℕ → Result Named PlanKind
 header_mapping s = do
-  field ← some_or BadArgument (behind 59 s)
+  field ← some_or BadArgument (behind_byte 59 s)
   name ← formed is_attribute_name (before 59 s)
   field ← formed is_field_name field
   Ok (record { name = name; value = field })
@@ -106,14 +107,13 @@ outgoing_param taken step = do
   s ← optional (codes "outgoing") (formed_value is_processor_name) (get_member (codes "outgoing") step)
   new_outgoing taken s
 
--- the schedule of a delay text, which has at most 1,048,576 bytes as the whole file has, and of a number of retries
+-- the schedule of a delay text, if there is one, and of a number of retries
 abbrev pub in_schedule : Result (List ℕ) ScheduleFault → Result (List ℕ) PlanKind
 in_schedule (Ok delays) = Ok delays
 in_schedule (Err fault) = Err BadArgument
 
 abbrev pub schedule : Option (List ℕ) → ℕ → Result (List ℕ) PlanKind
-schedule None retries = in_schedule (schedule_of None retries)
-schedule (Some s) retries = if nat_lt 1_048_576 (length s) then Err BadArgument else in_schedule (schedule_of (Some s) retries)
+schedule delays retries = in_schedule (schedule_of delays retries)
 
 abbrev pub schedule_param : Members → Result (List ℕ) PlanKind
 schedule_param step = do

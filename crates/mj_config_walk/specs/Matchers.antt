@@ -7,7 +7,8 @@ use Rattle.mj_plan.specs.declared.matcher.MatchExpr.{MatchExpr}
 use Rattle.mj_plan.specs.declared.matcher.MatchExpr.TheVariants.{One, And, Or, Not, Xor}
 use Rattle.mj_config_walk.specs.declared.fault.PlanKind.{PlanKind}
 use Rattle.mj_config_walk.specs.declared.fault.PlanKind.TheVariants.{WrongType, BadArgument, TooDeep, TooMany}
-use Rattle.mj_config_walk.specs.Values.{◌>>=◌, checked, items_len}
+use Rattle.mj_terms.specs.Answers.{◌>>=◌}
+use Rattle.mj_config_walk.specs.Values.{checked, items_len}
 use Rattle.mj_config_walk.specs.Conditions.{condition}
 
 -- each member of the array is a text or a table

@@ -4,6 +4,8 @@ use Rattle.std.specs.Int.{is_negative}
 use Rattle.std.specs.List.{list_any}
 use Rattle.std.specs.Str.{bytes_eq}
 use Rattle.toml.specs.Data.{Data, string, integer, boolean, array, table, Items, no_items, item, Members, get_member}
+use Rattle.mj_terms.specs.Answers as answers
+use Rattle.mj_terms.specs.Answers.{◌>>=◌}
 use Rattle.mj_address.specs.declared.fault.AddressFault.{AddressFault}
 use Rattle.mj_address.specs.Reading.{address_of, domain_of, local_of}
 use Rattle.mj_time.specs.declared.moments.MomentFault.{MomentFault}
@@ -14,12 +16,6 @@ use Rattle.mj_config_walk.specs.declared.fault.PlanKind.TheVariants.{Missing, Wr
 use Rattle.mj_config_walk.specs.declared.fault.Refusal.{Refusal}
 use Rattle.mj_config_walk.specs.declared.fault.Refusal.TheVariants.{Kind, Memory}
 
--- one reading after the other: the first fault is the fault of the whole
-infixl 10 ◌>>=◌
-abbrev pub ◌>>=◌ : {A B : Type 0} → Result A PlanKind → (A → Result B PlanKind) → Result B PlanKind
-(Ok x) >>= next = next x
-(Err kind) >>= next = Err kind
-
 -- the value, where it is as it should be
 abbrev pub checked : {X : Type 0} → Bool → PlanKind → X → Result X PlanKind
 checked good kind x = if good then Ok x else Err kind
@@ -29,11 +25,14 @@ abbrev pub some_or : {X : Type 0} → PlanKind → Option X → Result X PlanKin
 some_or kind None = Err kind
 some_or kind (Some x) = Ok x
 
+-- a fault but want of memory
+abbrev pub told : Refusal → Option PlanKind
+told (Kind kind) = Some kind
+told Memory = None
+
 -- what a call answered, seen so, is what was said, unless memory ran out
 abbrev pub GivesBy : {X Y : Type 0} → (X → Y) → Result X Refusal → Result Y PlanKind → Type 0
-GivesBy seen (Ok x) said = said ≡ Ok (seen x)
-GivesBy seen (Err (Kind kind)) said = said ≡ Err kind
-GivesBy seen (Err Memory) said = Unit {0}
+GivesBy seen answer said = answers.GivesBy told seen answer said
 
 abbrev pub Gives : {X : Type 0} → Result X Refusal → Result X PlanKind → Type 0
 Gives answer said = GivesBy (λ x. x) answer said

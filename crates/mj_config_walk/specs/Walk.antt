@@ -2,6 +2,7 @@
 use Rattle.std.specs.Prelude.{◌≡◌, ℕ, ◌+◌, nat_le, Bool, not, if◌then◌else◌, List, [], ◌∷◌, ◌++◌, length, map, codes, Option, Some, None, Result, Ok, Err}
 use Rattle.std.specs.List.{list_any, filter_map}
 use Rattle.std.specs.Str.{bytes_eq, is_utf8}
+use Rattle.mj_terms.specs.Answers.{◌>>=◌, GivesBy}
 use Rattle.mj_terms.specs.Limits.{within}
 use Rattle.toml.specs.Data.{Data, Items, Members, no_members, table, get_member}
 use Rattle.toml.specs.Parse.{parse_document}
@@ -23,7 +24,7 @@ use Rattle.mj_config_walk.specs.declared.fault.PlanFault.TheVariants.{Refused, M
 use Rattle.mj_config_walk.specs.declared.fault.PlanKind.{PlanKind}
 use Rattle.mj_config_walk.specs.declared.fault.PlanKind.TheVariants.{TooLarge, NotToml, Missing, WrongType, NoRoot, NoError, Twice, ReservedState, BadArgument, TooMany}
 use Rattle.mj_config_walk.specs.declared.spool.Spool.{Spool}
-use Rattle.mj_config_walk.specs.Values.{◌>>=◌, required, optional, checked, text, texts, tables, number, moment, address, domain, domain_value, local_part, formed, target, each, each_text}
+use Rattle.mj_config_walk.specs.Values.{required, optional, checked, text, texts, tables, number, moment, address, domain, domain_value, local_part, formed, target, each, each_text}
 use Rattle.mj_config_walk.specs.Matchers.{matcher}
 use Rattle.mj_config_walk.specs.Classes.{mailet_of}
 
@@ -239,18 +240,12 @@ abbrev pub located : {X : Type 0} → ℕ → ℕ → Result X PlanKind → Resu
 located processor step (Ok x) = Ok x
 located processor step (Err kind) = Err (Refused kind processor step)
 
--- one place after the other: the first fault is the fault of the whole
-infixl 10 ◌then◌
-abbrev pub ◌then◌ : {A B : Type 0} → Result A PlanFault → (A → Result B PlanFault) → Result B PlanFault
-(Ok x) then next = next x
-(Err fault) then next = Err fault
-
 -- the headers of the processors from this number on, where these names stand before
 abbrev pub headers_from : ℕ → List (List ℕ) → List Members → Result (List Header) PlanFault
 headers_from place earlier [] = Ok []
 headers_from place earlier (processor ∷ rest) =
-    located place 0 (header_of earlier processor) then λ header.
-    headers_from (place + 1) (earlier ++ header.name ∷ []) rest then λ headers.
+    located place 0 (header_of earlier processor) >>= λ header.
+    headers_from (place + 1) (earlier ++ header.name ∷ []) rest >>= λ headers.
     Ok (header ∷ headers)
 
 -- the names of the remote deliveries of these steps
@@ -261,16 +256,16 @@ deliveries steps = filter_map (λ step. outgoing_of step.mailet) steps
 abbrev pub steps_from : List (List ℕ) → List (List ℕ) → ℕ → ℕ → List Members → Result (List Step) PlanFault
 steps_from names taken processor place [] = Ok []
 steps_from names taken processor place (first ∷ rest) =
-    located processor place (step_of names taken first) then λ step.
-    steps_from names (taken ++ deliveries (step ∷ [])) processor (place + 1) rest then λ steps.
+    located processor place (step_of names taken first) >>= λ step.
+    steps_from names (taken ++ deliveries (step ∷ [])) processor (place + 1) rest >>= λ steps.
     Ok (step ∷ steps)
 
 -- the processors from this number on
 abbrev pub processors_from : List (List ℕ) → List (List ℕ) → ℕ → List Header → Result (List Processor) PlanFault
 processors_from names taken place [] = Ok []
 processors_from names taken place (header ∷ rest) =
-    steps_from names taken place 1 header.steps then λ steps.
-    processors_from names (taken ++ deliveries steps) (place + 1) rest then λ processors.
+    steps_from names taken place 1 header.steps >>= λ steps.
+    processors_from names (taken ++ deliveries steps) (place + 1) rest >>= λ processors.
     Ok (record { name = header.name; steps = steps } ∷ processors)
 
 -- there are the two processors that each plan has
@@ -294,8 +289,8 @@ spool_in value = table_or_none value >>= spool_of
 -- the processors: their headers first, and then their steps
 abbrev pub processors_in : Option Data → Result (List Processor) PlanFault
 processors_in value =
-    located 0 0 (tables_or_none 100 value) then λ tables.
-    headers_from 1 [] tables then processors_of
+    located 0 0 (tables_or_none 100 value) >>= λ tables.
+    headers_from 1 [] tables >>= processors_of
 
 abbrev pub plan_of : Spool → List Mapping → List Processor → Plan
 plan_of spool mappings processors = record {
@@ -311,9 +306,9 @@ plan_of spool mappings processors = record {
 
 abbrev pub plan_of_document : Members → Result Plan PlanFault
 plan_of_document document =
-    located 0 0 (spool_in (get_member (codes "spool") document)) then λ spool.
-    located 0 0 (rewrite_of (get_member (codes "rewrite") document)) then λ mappings.
-    processors_in (get_member (codes "processor") document) then λ processors.
+    located 0 0 (spool_in (get_member (codes "spool") document)) >>= λ spool.
+    located 0 0 (rewrite_of (get_member (codes "rewrite") document)) >>= λ mappings.
+    processors_in (get_member (codes "processor") document) >>= λ processors.
     Ok (plan_of spool mappings processors)
 
 -- the document that the bytes are
@@ -332,11 +327,14 @@ plan_within limit bytes = within limit (Err (Refused TooLarge 0 0)) (λ text. pl
 unfoldable pub plan : List ℕ → Result Plan PlanFault
 plan bytes = plan_within 1_048_576 bytes
 
+-- a fault but want of memory
+abbrev pub told_fault : PlanFault → Option PlanFault
+told_fault (Refused kind processor step) = Some (Refused kind processor step)
+told_fault Memory = None
+
 -- what a call answered, seen so, is what was said, unless memory ran out
 abbrev pub AnswersBy : {X Y : Type 0} → (X → Y) → Result X PlanFault → Result Y PlanFault → Type 0
-AnswersBy seen (Ok x) said = said ≡ Ok (seen x)
-AnswersBy seen (Err (Refused kind processor step)) said = said ≡ Err (Refused kind processor step)
-AnswersBy seen (Err Memory) said = Unit {0}
+AnswersBy seen answer said = GivesBy told_fault seen answer said
 
 abbrev pub Answers : {X : Type 0} → Result X PlanFault → Result X PlanFault → Type 0
 Answers answer said = AnswersBy (λ x. x) answer said

@@ -1,5 +1,5 @@
 -- What adding an entry to a draft leaves to be read.
-use Rattle.std.proofs.Common.{◌≡◌, ℕ, ◌+◌, ◌≤◌, max, Bool, true, false, cond, ltb, List, [], ◌∷◌, ◌++◌, replicate, Some, None, Result, Ok, Err, refl, sym, ap, ◌∙◌, arith, append_assoc, add_assoc}
+use Rattle.std.proofs.Common.{◌≡◌, ℕ, ◌+◌, ◌-◌, ◌^◌, ◌<◌, ◌≤◌, min, max, Bool, true, false, cond, leb, ltb, List, [], ◌∷◌, ◌++◌, replicate, Some, None, Result, Ok, Err, refl, sym, ap, ◌∙◌, arith, append_assoc, add_assoc}
 use Rattle.std.specs.List.{slice_split}
 use Rattle.std.proofs.lemmas.Grind.{common_steps}
 use Rattle.std.proofs.lemmas.Bool.Decides.{nat_tests}
@@ -7,7 +7,8 @@ use Rattle.mj_delays.specs.declared.delays.Entry.{Entry}
 use Rattle.mj_delays.specs.declared.schedules.ScheduleFault.{ScheduleFault}
 use Rattle.mj_delays.specs.declared.schedules.ScheduleFault.TheVariants.{TooMany}
 use Rattle.mj_delays.specs.Delays.{entry_of}
-use Rattle.mj_delays.specs.Schedule.{◌>>=◌, attempts, checked, default_entry, entries_from, extended, is_comma, list_of, schedule_of, written_out}
+use Rattle.mj_terms.specs.Answers.{◌>>=◌}
+use Rattle.mj_delays.specs.Schedule.{attempts, checked, default_entry, entries_from, extended, is_comma, list_of, schedule_of, written_out}
 use Rattle.mj_delays.specs.Draft.{completed}
 
 -- the schedule of so many attempts with these delays
@@ -36,10 +37,33 @@ completed_rest : (n count : ℕ) (delays more : List ℕ) (entry : Entry) (read 
 completed_rest n count delays more entry (Ok entries) grown = completed_step n count delays more entry entries grown
 completed_rest n count delays more entry (Err fault) grown = refl
 
+-- above 100 neither count matters
+completed_over : (n a b : ℕ) (delays more : List ℕ) (entries : List Entry) → 100 < a → 100 < b → completed n a delays entries ≡ completed n b more entries
+unfolding completed
+completed_over n a b delays more entries high higher = grind (arith, nat_tests)
+
+over_rest : (n a b : ℕ) (delays more : List ℕ) (read : Result (List Entry) ScheduleFault) → 100 < a → 100 < b → (read >>= completed n a delays) ≡ (read >>= completed n b more)
+over_rest n a b delays more (Ok entries) high higher = completed_over n a b delays more entries high higher
+over_rest n a b delays more (Err fault) high higher = refl
+
+-- so a count may stop at any limit that is greater
+capped_by : (n total sum limit : ℕ) (delays : List ℕ) (read : Result (List Entry) ScheduleFault) (t : Bool) → leb sum limit ≡ t → total ≡ min sum limit → 100 < limit
+    → (read >>= completed n total delays) ≡ (read >>= completed n sum delays)
+capped_by n total sum limit delays read true e is high =
+    let within : sum ≤ limit = grind (arith, nat_tests) in
+    ap (λ t. read >>= completed n t delays) (omega (arith, is, within))
+capped_by n total sum limit delays read false e is high =
+    let over : limit < sum = grind (arith, nat_tests) in
+    over_rest n total sum delays delays read (omega (arith, is, over, high)) (omega (arith, over, high))
+
+capped : (n total sum limit : ℕ) (delays : List ℕ) (read : Result (List Entry) ScheduleFault) → total ≡ min sum limit → 100 < limit
+    → (read >>= completed n total delays) ≡ (read >>= completed n sum delays)
+capped n total sum limit delays read is high = capped_by n total sum limit delays read (leb sum limit) refl is high
+
 -- the next entry, read
-pub completed_ok : (n count total place : ℕ) (delays more part : List ℕ) (texts parts : List (List ℕ)) (entry : Entry) → texts ≡ part ∷ parts → checked place (entry_of part) ≡ Ok entry → total ≡ count + entry.attempts → (total ≤ 100 → more ≡ delays ++ replicate entry.attempts entry.delay) → (entries_from (place + 1) parts >>= completed n total more) ≡ (entries_from place texts >>= completed n count delays)
+pub completed_ok : (n count total place : ℕ) (delays more part : List ℕ) (texts parts : List (List ℕ)) (entry : Entry) → texts ≡ part ∷ parts → checked place (entry_of part) ≡ Ok entry → total ≡ min (count + entry.attempts) (2 ^ 64 - 1) → (total ≤ 100 → more ≡ delays ++ replicate entry.attempts entry.delay) → (entries_from (place + 1) parts >>= completed n total more) ≡ (entries_from place texts >>= completed n count delays)
 completed_ok n count total place delays more part texts parts entry split read sum grown =
-    ap (λ t. entries_from (place + 1) parts >>= completed n t more) sum
+    capped n total (count + entry.attempts) (2 ^ 64 - 1) more (entries_from (place + 1) parts) sum (omega arith)
     ∙ completed_rest n count delays more entry (entries_from (place + 1) parts) (λ few. grown (omega arith))
     ∙ sym (ap (λ ts. entries_from place ts >>= completed n count delays) split ∙ ap (λ r. (r >>= λ e. entries_from (place + 1) parts >>= λ es. Ok (e ∷ es)) >>= completed n count delays) read)
 
@@ -58,8 +82,8 @@ pub completed_start : (n : ℕ) (text : List ℕ) → (entries_from 1 (slice_spl
 completed_start n text = start n (entries_from 1 (slice_split is_comma text))
 
 -- the draft with the one entry that there is without a text
-pub completed_default : (n count total : ℕ) (delays more : List ℕ) → count ≡ 0 → delays ≡ [] → total ≡ count + 1 → (total ≤ 100 → more ≡ delays ++ replicate 1 21_600_000) → completed n total more [] ≡ schedule_of None n
+pub completed_default : (n count total : ℕ) (delays more : List ℕ) → count ≡ 0 → delays ≡ [] → total ≡ min (count + 1) (2 ^ 64 - 1) → (total ≤ 100 → more ≡ delays ++ replicate 1 21_600_000) → completed n total more [] ≡ schedule_of None n
 completed_default n count total delays more none empty sum grown =
-    ap (λ t. completed n t more []) (sum ∙ ap (λ k. k + 1) none)
+    ap (λ t. completed n t more []) (omega (arith, sum, none))
     ∙ completed_step n 0 [] more default_entry [] (λ few. grown (omega arith) ∙ ap (λ ds. ds ++ replicate 1 21_600_000) empty)
     ∙ start n (Ok (default_entry ∷ []))

@@ -1,15 +1,11 @@
 -- The list of delays that a delay text and a number of retries give.
-use Rattle.std.specs.Prelude.{◌≡◌, ℕ, ◌+◌, ◌-◌, ◌==◌, max, Bool, nat_lt, if◌then◌else◌, List, [], ◌∷◌, ◌++◌, length, replicate, slice_index, Option, Some, None, Result, Ok, Err}
+use Rattle.std.specs.Prelude.{ℕ, ◌+◌, ◌-◌, ◌==◌, max, Bool, nat_lt, if◌then◌else◌, List, [], ◌∷◌, ◌++◌, length, replicate, slice_index, Option, Some, None, Result, Ok, Err}
 use Rattle.std.specs.List.{slice_split}
+use Rattle.mj_terms.specs.Answers.{◌>>=◌, GivesBy}
 use Rattle.mj_delays.specs.Delays.{entry_of}
 use Rattle.mj_delays.specs.declared.delays.Entry.{Entry}
 use Rattle.mj_delays.specs.declared.schedules.ScheduleFault.{ScheduleFault}
 use Rattle.mj_delays.specs.declared.schedules.ScheduleFault.TheVariants.{BadDelay, TooLong, TooMany, Memory}
-
-infixl 10 ◌>>=◌
-abbrev pub ◌>>=◌ : {A B : Type 0} → Result A ScheduleFault → (A → Result B ScheduleFault) → Result B ScheduleFault
-(Ok value) >>= next = next value
-(Err fault) >>= next = Err fault
 
 -- the entry at a place: a text that spells none is a bad delay, and the longest delay is seven days
 abbrev pub checked : ℕ → Option Entry → Result Entry ScheduleFault
@@ -54,8 +50,11 @@ abbrev pub schedule_of : Option (List ℕ) → ℕ → Result (List ℕ) Schedul
 schedule_of None n = list_of n (default_entry ∷ [])
 schedule_of (Some text) n = entries_from 1 (slice_split is_comma text) >>= list_of n
 
+-- a fault but want of memory
+abbrev pub told : ScheduleFault → Option ScheduleFault
+told Memory = None
+told fault = Some fault
+
 -- what was answered is the schedule, or the fault that there is in place of one, unless memory ran out
 abbrev pub Gives : Result (List ℕ) ScheduleFault → Result (List ℕ) ScheduleFault → Type 0
-Gives (Ok delays) schedule = schedule ≡ Ok delays
-Gives (Err Memory) schedule = Unit {0}
-Gives (Err fault) schedule = schedule ≡ Err fault
+Gives answer schedule = GivesBy told (λ delays. delays) answer schedule

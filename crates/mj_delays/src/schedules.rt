@@ -1,7 +1,7 @@
 //! The list of delays after failed attempts.
-ghost use Rattle.std.specs.Prelude.{◌≡◌, ◌+◌, ◌-◌, ◌≤◌, ◌<◌, ◌^◌, [], ◌∷◌, ◌++◌, true, length, replicate, vec_len, slice_get, ◌↔◌, IsNone, IfOk, IfSome, OnOk};
+ghost use Rattle.std.specs.Prelude.{◌≡◌, ◌+◌, ◌-◌, ◌≤◌, ◌<◌, ◌^◌, min, [], ◌∷◌, ◌++◌, true, length, replicate, vec_len, slice_get, ◌↔◌, IsNone, IfOk, IfSome, OnOk};
 ghost use Rattle.std.specs.List.{list_all, slice_split};
-ghost use Rattle.std.specs.Option.{option_copied, ForSome};
+ghost use Rattle.std.specs.Option.{option_copied};
 ghost use Rattle.mj_delays.specs.declared.schedules.ScheduleFault.TheVariants.{Memory};
 ghost use Rattle.mj_delays.specs.Limits.{IsSchedule, is_short};
 ghost use Rattle.mj_delays.specs.Delays.{entry_of};
@@ -31,10 +31,10 @@ const DEFAULT_ENTRY: Entry = Entry {
 pub enum ScheduleFault {
     /// The entry at this place isn't of the form `attempts * delay unit`, as an empty one isn't.
     #[error("entry {place} is no delay")]
-    BadDelay { place: u32 },
+    BadDelay { place: u64 },
     /// The entry at this place waits longer than seven days.
     #[error("the delay of entry {place} is over seven days")]
-    TooLong { place: u32 },
+    TooLong { place: u64 },
     /// The list has more than 100 delays. Faults of entries come before this one.
     #[error("there are more than 100 delays")]
     TooMany,
@@ -86,7 +86,6 @@ impl Schedule {
         text: Option<&[u8]>,
         max_retries: u32,
     ) -> Result<Schedule, ScheduleFault>
-        requires { ForSome text (λ bytes. length bytes.now ≤ 1_048_576) }
         // The schedule, or the first fault, by what the text says alone.
         ensures exact { Gives result (schedule_of (option_copied text.entry) max_retries) }
         ensures limits { IfOk result IsSchedule }
@@ -125,7 +124,8 @@ impl Schedule {
     }
 }
 
-/// The delays that the entries so far write out. More than 100 attempts are counted and not kept.
+/// The delays that the entries so far write out. More than 100 attempts are counted, up to the last value of the count,
+/// and not kept.
 #[derive(Drop)]
 struct Draft {
     delays: Vec<u64>,
@@ -149,13 +149,12 @@ impl Draft {
     /// Adds an entry.
     #[tactic(auto, using(crate::proofs::Short::short_resized))]
     fn add(&mut self, entry: Entry) -> Result<(), AllocError>
-        requires room { self.old.attempts + entry.attempts < 2 ^ 64 }
         requires short { entry.delay ≤ 604_800_000 }
-        ensures attempts { OnOk result (self.new.attempts ≡ self.old.attempts + entry.attempts) }
+        ensures attempts { OnOk result (self.new.attempts ≡ min (self.old.attempts + entry.attempts) (2 ^ 64 - 1)) }
         ensures delays { OnOk result (self.new.attempts ≤ 100
             → self.new.delays.items ≡ self.old.delays.items ++ replicate entry.attempts entry.delay) }
     {
-        let attempts = self.attempts + u64::from(entry.attempts);
+        let attempts = self.attempts.saturating_add(u64::from(entry.attempts));
         if attempts <= MOST_DELAYS {
             self.delays.resize(attempts as usize, entry.delay)?;
         }
@@ -207,7 +206,7 @@ fn next_part(text: &[u8]) -> (&[u8], Option<&[u8]>)
 }
 
 /// The entry at a place.
-fn entry_at(place: u32, text: &[u8]) -> Result<Entry, ScheduleFault>
+fn entry_at(place: u64, text: &[u8]) -> Result<Entry, ScheduleFault>
     ensures value { result ≡ checked place (entry_of text.now) }
     ensures some { IfOk result (λ entry. 1 ≤ entry.attempts) }
     ensures small { IfOk result (λ entry. entry.attempts < 1_000_000_000) }
@@ -235,7 +234,6 @@ fn default_schedule(alloc: Global, max_retries: u32) -> Result<Schedule, Schedul
 
 /// The schedule of a text.
 fn read_text(alloc: Global, text: &[u8], max_retries: u32) -> Result<Schedule, ScheduleFault>
-    requires { length text.now ≤ 1_048_576 }
     ensures { Gives result (schedule_of (Some text.now) max_retries) }
 {
     let mut draft = Draft::new(alloc);

@@ -6,7 +6,8 @@ use Rattle.std.proofs.lemmas.Bool.{and_parts}
 use Rattle.std.proofs.lemmas.Str.{IsUtf8-from_is_utf8}
 use Rattle.mj_terms.specs.Limits.{within-take}
 use Rattle.mj_mailfile.specs.MailFile.{mail_file-take}
-use Rattle.mj_config_walk.specs.Walk.{◌then◌, document, plan, plan_of_text}
+use Rattle.mj_terms.specs.Answers.{◌>>=◌}
+use Rattle.mj_config_walk.specs.Walk.{document, plan, plan_of_text}
 use Rattle.mj_config_walk.specs.declared.fault.PlanFault.TheVariants.{Refused}
 use Rattle.mj_config_walk.specs.declared.fault.PlanKind.TheVariants.{TooLarge}
 use Rattle.mj_engine.specs.Config.{built, configuration, plan_room}
@@ -20,7 +21,7 @@ mail_of_front room (Some bytes) e = ap (λ mail. Some (as_refusal mail)) (mail_f
 pub plan_of_front : (room : ℕ) (file : Option (List ℕ)) → room ≡ plan_room → configuration (option_map (take room) file) ≡ configuration file
 unfolding plan plan_room
 plan_of_front room None e = refl
-plan_of_front room (Some bytes) e = ap (λ read. read then built) (within-take 1_048_576 room (Err (Refused TooLarge 0 0)) (λ text. plan_of_text (document text)) bytes e)
+plan_of_front room (Some bytes) e = ap (λ read. read >>= built) (within-take 1_048_576 room (Err (Refused TooLarge 0 0)) (λ text. plan_of_text (document text)) bytes e)
 
 -- each of these names is a text
 pub text_at : (names : List (List ℕ)) (k : ℕ) (d : List ℕ) → list_all is_utf8 names ≡ true → k < length names → IsUtf8 (get_or names k d)

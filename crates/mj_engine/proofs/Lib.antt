@@ -1,5 +1,6 @@
 pub mod Built
 pub mod Carried
+pub mod Endings
 pub mod Fronts
 pub mod Names
 pub mod Written

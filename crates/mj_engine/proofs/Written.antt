@@ -4,7 +4,7 @@ use Rattle.std.proofs.Math.Seq.{take-length}
 use Rattle.mj_terms.specs.Causes.{HasCause}
 use Rattle.mj_io.specs.declared.sink.Failed.{Failed}
 use Rattle.mj_io.specs.Grown.{grown}
-use Rattle.mj_engine.specs.Top.{GrowsByLine}
+use Rattle.mj_engine.specs.Ends.{GrowsByLine}
 
 -- whichever way the call went, a front of it was written, and all of it unless the count rose
 pub grows_by_line : (result : Result (Unit {0}) Failed) (old new : Option (List ℕ)) (before now : ℕ) (line : List ℕ)

@@ -7,7 +7,8 @@ use Rattle.mj_config_walk.specs.declared.fault.PlanFault.{PlanFault}
 use Rattle.mj_config_walk.specs.declared.fault.PlanFault.TheVariants.{Refused}
 use Rattle.mj_config_walk.specs.declared.fault.PlanKind.TheVariants.{NoFile, NotBuilt}
 use Rattle.mj_container.specs.Built.{is_built_step}
-use Rattle.mj_config_walk.specs.Walk.{◌then◌, plan}
+use Rattle.mj_terms.specs.Answers.{◌>>=◌}
+use Rattle.mj_config_walk.specs.Walk.{plan}
 
 -- the number of the first step that isn't built, where the steps are counted from this number on
 abbrev pub unbuilt_step : ℕ → List Step → Option ℕ
@@ -34,7 +35,7 @@ built plan = built_by plan (unbuilt 1 plan.processors)
 -- the plan of a configuration file, or its fault
 abbrev pub configuration : Option (List ℕ) → Result Plan PlanFault
 configuration None = Err (Refused NoFile 0 0)
-configuration (Some bytes) = plan bytes then built
+configuration (Some bytes) = plan bytes >>= built
 
 -- how many bytes are read of a configuration: one more than it may have
 unfoldable pub plan_room : ℕ

@@ -1,4 +1,5 @@
 pub mod Config
+pub mod Ends
 pub mod Faults
 pub mod Intake
 pub mod Run

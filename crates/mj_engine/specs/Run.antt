@@ -1,6 +1,7 @@
 -- What a run writes, and how its report grows name by name.
-use Rattle.std.specs.Prelude.{◌≡◌, ℕ, ◌+◌, if◌then◌else◌, List, [], ◌∷◌, ◌++◌, codes, Option, Some, None, Result, Ok, Err}
+use Rattle.std.specs.Prelude.{ℕ, ◌+◌, if◌then◌else◌, List, [], ◌∷◌, ◌++◌, codes, Option, Some, None, Result, Ok, Err}
 use Rattle.std.specs.List.{flat_map}
+use Rattle.mj_terms.specs.Answers.{GivesBy}
 use Rattle.mj_io.specs.Folder.{file_at}
 use Rattle.mj_mail.specs.declared.mail.NewMail.{NewMail}
 use Rattle.mj_mail.specs.Mail.{first}
@@ -35,19 +36,19 @@ output_by files (Err fault) = Err fault
 abbrev pub output : List (List ℕ × List ℕ) → Result (List ℕ) PlanFault
 output files = output_by files (plan_in files)
 
+-- the fault of the configuration, which the files and memory have no part in
+abbrev pub told : RunFault → Option PlanFault
+told (Refused kind processor step) = Some (config.Refused kind processor step)
+told Read = None
+told Memory = None
+
 -- what was returned is that, unless the files failed or memory ran out
 abbrev pub GivesOutput : Result (List ℕ) RunFault → Result (List ℕ) PlanFault → Type 0
-GivesOutput (Ok text) said = said ≡ Ok text
-GivesOutput (Err (Refused kind processor step)) said = said ≡ Err (config.Refused kind processor step)
-GivesOutput (Err Read) said = Unit {0}
-GivesOutput (Err Memory) said = Unit {0}
+GivesOutput answer said = GivesBy told (λ text. text) answer said
 
 -- and the same of the rules alone
 abbrev pub GivesRules : Result JamesRules RunFault → Result Plan PlanFault → Type 0
-GivesRules (Ok rules) said = said ≡ Ok rules.plan
-GivesRules (Err (Refused kind processor step)) said = said ≡ Err (config.Refused kind processor step)
-GivesRules (Err Read) said = Unit {0}
-GivesRules (Err Memory) said = Unit {0}
+GivesRules answer said = GivesBy told (λ rules. rules.plan) answer said
 
 -- a report without lines
 abbrev pub empty_report : Report

@@ -2,8 +2,9 @@ ghost use Rattle.std.specs.Prelude.{◌≡◌, ◌⊎◌, ◌↔◌, ◌≤◌, 
 ghost use Rattle.mj_terms.specs.Causes.{Rose};
 ghost use Rattle.mj_io.specs.Grown.{grown};
 ghost use Rattle.mj_engine.specs.Run.{output, plan_in};
-ghost use Rattle.mj_engine.specs.Top.{is_run, is_status, GrowsByLine, GrowsByFront};
-ghost use Rattle.mj_report.specs.Faults.{config_line as config_text, read_line as read_text, usage_line as usage_text};
+ghost use Rattle.mj_engine.specs.Ends.{GrowsByLine, GrowsByFront, ends_of_run};
+ghost use Rattle.mj_engine.specs.Top.{Runs, is_one_of, is_run};
+ghost use Rattle.mj_report.specs.Faults.{config_line as config_text, read_line as read_text};
 
 use crate::run::{RunFault, run};
 use mj_config::{PlanFault, PlanKind};
@@ -41,35 +42,50 @@ pub fn james_one<F: Files, S: Sink>(
     files: &mut F,
     out: &mut S,
 ) -> u8
-    // Which status comes when. Want of memory alone, 12, is free.
-    ensures status { is_status result ≡ true }
-    ensures words { (result ≡ 2) ↔ (is_run words.now.items ≡ false) }
-    ensures configuration { IfSome (F.told files.old) (λ told. (fault : PlanFault) → plan_in told ≡ Err fault
-        → is_run words.now.items ≡ true → (result ≡ 3) ⊎ ((result ≡ 5) ⊎ (result ≡ 12))) }
-    ensures read { result ≡ 5 → Rose (F.faults files.old) (F.faults files.new) }
-    ensures write { result ≡ 6 → Rose (S.faults out.old) (S.faults out.new) }
-
-    // What the sink's bytes grew by.
-    ensures report { result ≡ 0 → IfSome (F.told files.old) (λ told. (text : List ℕ) × (output told ≡ Ok text)
-        × (S.told out.new ≡ grown (S.told out.old) text)) }
-    ensures report_front { result ≡ 6 → IfSome (F.told files.old) (λ told. (text : List ℕ) × (output told ≡ Ok text)
-        × GrowsByFront (S.told out.old) (S.told out.new) text) }
-    ensures usage_text { result ≡ 2 → GrowsByLine (S.told out.old) (S.told out.new) (S.faults out.old) (S.faults out.new) usage_text }
-    ensures config_text { result ≡ 3 → (kind : PlanKind) × (processor : ℕ) × (step : ℕ)
-        × IfSome (F.told files.old) (λ told. plan_in told ≡ Err (PlanFault.Refused kind processor step))
-        × GrowsByLine (S.told out.old) (S.told out.new) (S.faults out.old) (S.faults out.new) (config_text kind processor step) }
-    ensures read_text { result ≡ 5 → GrowsByLine (S.told out.old) (S.told out.new) (S.faults out.old) (S.faults out.new) read_text }
-    ensures nothing { result ≡ 12 → S.told out.new ≡ S.told out.old }
+    // Which status comes when, and what the sink gained.
+    ensures runs { Runs (record {
+      words = words.now.items;
+      files = F.told files.old;
+      file_faults = record { before = F.faults files.old; after = F.faults files.new };
+      sink_faults = record { before = S.faults out.old; after = S.faults out.new };
+      bytes = record { before = S.told out.old; after = S.told out.new };
+    }) result }
 
     // What stays as it was.
     ensures same_files { F.told files.new ≡ F.told files.old }
     ensures file_faults { F.faults files.old ≤ F.faults files.new }
     ensures sink_faults { S.faults out.old ≤ S.faults out.new }
 {
-    if !asks_run(words) {
+    if asks_run(words) {
+        run_command(alloc, files, out)
+    } else {
         put_line(out, usage_line());
-        return USAGE;
+        USAGE
     }
+}
+
+/// Carries the mails, and writes the report or the line that says why there is none.
+fn run_command<F: Files, S: Sink>(alloc: Global, files: &mut F, out: &mut S) -> u8
+    ensures status { is_one_of ends_of_run result ≡ true }
+    ensures configuration { IfSome (F.told files.old) (λ told. (fault : PlanFault) → plan_in told ≡ Err fault
+        → (result ≡ 3) ⊎ ((result ≡ 5) ⊎ (result ≡ 12))) }
+    ensures read { result ≡ 5 → Rose (F.faults files.old) (F.faults files.new) }
+    ensures write { result ≡ 6 → Rose (S.faults out.old) (S.faults out.new) }
+
+    ensures report { result ≡ 0 → (text : List ℕ) × IfSome (F.told files.old) (λ told. output told ≡ Ok text)
+        × (S.told out.new ≡ grown (S.told out.old) text) }
+    ensures report_front { result ≡ 6 → (text : List ℕ) × IfSome (F.told files.old) (λ told. output told ≡ Ok text)
+        × GrowsByFront (S.told out.old) (S.told out.new) text }
+    ensures config_text { result ≡ 3 → (kind : PlanKind) × (processor : ℕ) × (step : ℕ)
+        × IfSome (F.told files.old) (λ told. plan_in told ≡ Err (PlanFault.Refused kind processor step))
+        × GrowsByLine (S.told out.old) (S.told out.new) (S.faults out.old) (S.faults out.new) (config_text kind processor step) }
+    ensures read_text { result ≡ 5 → GrowsByLine (S.told out.old) (S.told out.new) (S.faults out.old) (S.faults out.new) read_text }
+    ensures nothing { result ≡ 12 → S.told out.new ≡ S.told out.old }
+
+    ensures same_files { F.told files.new ≡ F.told files.old }
+    ensures file_faults { F.faults files.old ≤ F.faults files.new }
+    ensures sink_faults { S.faults out.old ≤ S.faults out.new }
+{
     match run(alloc, files) {
         Ok(text) => write_report(out, text.as_slice()),
         Err(

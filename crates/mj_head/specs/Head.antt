@@ -1,7 +1,8 @@
 -- Heads of messages (RFC 5322, 2.2): the bytes, the fields, and the place where the body begins.
 use Rattle.std.specs.Prelude.{◌≡◌, ℕ, ◌+◌, nat_lt, nat_le, ◌==◌, Bool, true, false, not, ◌&&◌, if◌then◌else◌, List, [], ◌∷◌, ◌++◌, length, Option, Some, None, Result, Ok, Err}
 use Rattle.std.specs.List.{list_all, list_any}
-use Rattle.mj_terms.specs.Text.{is_blank, trim_back}
+use Rattle.mj_terms.specs.Text.{after, is_blank, trim_back}
+use Rattle.mj_terms.specs.Answers.{GivesBy}
 -- names of fields, and lines that continue a field
 pub use Rattle.mj_head_lines.specs.Lines.{before_colon, is_name_byte, is_field_name, is_continuation}
 use Rattle.mj_head.specs.declared.fault.HeadFault.{HeadFault}
@@ -45,8 +46,7 @@ body_place (line ∷ rest) = if length (content line) == 0 then length line else
 
 -- what stands behind the first colon
 abbrev pub after_colon : List ℕ → List ℕ
-after_colon [] = []
-after_colon (b ∷ line) = if b == 58 then line else after_colon line
+after_colon line = after 58 line
 
 -- the name is what stands before the first colon, less the blanks right before the colon
 abbrev pub name_of : List ℕ → List ℕ
@@ -118,14 +118,14 @@ head_within limit text =
 abbrev pub head_of : List ℕ → Result (List RawField × ℕ) HeadFault
 head_of text = head_within 65536 text
 
+-- a fault but want of memory
+abbrev pub told : HeadFault → Option HeadFault
+told Memory = None
+told fault = Some fault
+
 -- what was returned is what the text has, unless memory ran out
 abbrev pub Gives : Result (List RawField × ℕ) HeadFault → Result (List RawField × ℕ) HeadFault → Type 0
-Gives (Ok head) read = read ≡ Ok head
-Gives (Err (ContinuationFirst number)) read = read ≡ Err (ContinuationFirst number)
-Gives (Err (NoColon number)) read = read ≡ Err (NoColon number)
-Gives (Err (BadName number)) read = read ≡ Err (BadName number)
-Gives (Err (TooLong number)) read = read ≡ Err (TooLong number)
-Gives (Err Memory) read = Unit {0}
+Gives answer read = GivesBy told (λ head. head) answer read
 
 -- ---- The form of a head
 

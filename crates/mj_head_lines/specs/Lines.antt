@@ -1,12 +1,11 @@
 -- Lines of a head (RFC 5322, 2.2): names of fields, and lines that continue a field.
 use Rattle.std.specs.Prelude.{ℕ, nat_le, ◌==◌, Bool, false, not, ◌&&◌, if◌then◌else◌, List, [], ◌∷◌, length}
 use Rattle.std.specs.List.{list_all}
-use Rattle.mj_terms.specs.Text.{is_blank}
+use Rattle.mj_terms.specs.Text.{before, is_blank}
 
 -- what stands before the first colon
 abbrev pub before_colon : List ℕ → List ℕ
-before_colon [] = []
-before_colon (b ∷ line) = if b == 58 then [] else b ∷ before_colon line
+before_colon line = before 58 line
 
 -- a name is one or more bytes 33 to 126 other than the colon
 abbrev pub is_name_byte : ℕ → Bool

@@ -1,8 +1,9 @@
 ghost use Rattle.std.specs.Prelude.{◌≡◌, ℕ, List, Option, take, option_map, true, IfSome, IfOk};
 ghost use Rattle.std.specs.List.{list_all};
+ghost use Rattle.std.specs.List.Sorted.{IsPermutation};
 ghost use Rattle.std.specs.Str.{is_utf8};
 ghost use Rattle.mj_terms.specs.Causes.{HasCause};
-ghost use Rattle.mj_io.specs.Folder.{names_in, file_at};
+ghost use Rattle.mj_io.specs.Folder.{ascend, found_in, names_in, file_at};
 
 use mj_fields::{Bytes, Items, Memory};
 use std::alloc::Global;
@@ -39,6 +40,9 @@ pub trait Files {
     /// none.
     fn list(&mut self, alloc: Global, folder: &str) -> Result<Items<Bytes>, FilesError>
         ensures names { IfSome (told self.old) (λ files. IfOk result (λ names. names ≡ names_in folder.now files)) }
+        // So they ascend, and are those of the files in the folder, each as often.
+        ensures order { IfSome (told self.old) (λ _. IfOk result (λ names. ascend names ≡ true)) }
+        ensures members { IfSome (told self.old) (λ files. IfOk result (λ names. IsPermutation (found_in folder.now files) names)) }
         ensures utf8 { IfOk result (λ names. list_all is_utf8 names ≡ true) }
         ensures same { told self.new ≡ told self.old }
         ensures cause { HasCause FilesError.Failed (faults self.old) (faults self.new) result };

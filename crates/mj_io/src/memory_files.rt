@@ -1,12 +1,13 @@
 ghost use Rattle.std.specs.Prelude.{◌≡◌, ◌&&◌, ◌≤◌, ◌↔◌, length, take, true, is_none, IfOk, IsErrOf, option_map};
 ghost use Rattle.std.specs.List.{list_all};
+ghost use Rattle.std.specs.List.Sorted.{IsPermutation};
 ghost use Rattle.std.specs.Option.{option_copied};
 ghost use Rattle.std.specs.Ordering.{nat_cmp, is_le};
 ghost use Rattle.std.specs.Cmp.Lexicographic.{slice_cmp};
 ghost use Rattle.std.specs.Str.{is_utf8};
 ghost use Rattle.mj_terms.specs.Causes.{HasCause};
 ghost use Rattle.mj_fields.specs.Calls.{is_named};
-ghost use Rattle.mj_io.specs.Folder.{file_at, name_in, names_in, place_of};
+ghost use Rattle.mj_io.specs.Folder.{ascend, file_at, found_in, name_in, names_in, place_of};
 ghost use Rattle.mj_io.specs.Held.{called, told_files, are_files as are_sound};
 
 use crate::{Files, FilesError};
@@ -214,6 +215,8 @@ impl Files for MemoryFiles {
 
     fn list(&mut self, alloc: Global, folder: &str) -> Result<Items<Bytes>, FilesError>
         ensures names { IfOk result (λ names. names ≡ names_in folder.now self.old.files) }
+        ensures order { IfOk result (λ names. ascend names ≡ true) }
+        ensures members { IfOk result (λ names. IsPermutation (found_in folder.now self.old.files) names) }
         ensures utf8 { IfOk result (λ names. list_all is_utf8 names ≡ true) }
         ensures same { self.new.files ≡ self.old.files }
         ensures cause { HasCause FilesError.Failed self.old.faults self.new.faults result }

@@ -4,6 +4,7 @@ use Rattle.std.specs.List.{ends_with, concat}
 use Rattle.std.specs.Option.{option_and_then, option_map_or}
 use Rattle.std.specs.Result.{result_ok}
 use Rattle.std.proofs.Common.{Bor}
+use Rattle.mj_terms.specs.Answers.{◌>>=◌, GivesBy}
 use Rattle.mj_terms.specs.Limits.{within, within-take}
 use Rattle.mj_terms.specs.Text.{behind, same_text, trim_back, trimmed}
 use Rattle.mj_address.specs.Reading.{address_of}
@@ -18,24 +19,14 @@ use Rattle.mj_mailfile.specs.declared.fault.MailFault.TheVariants.{TooLarge, NoM
 
 -- ---- Answers
 
-infixl 10 ◌>>=◌
-abbrev pub ◌>>=◌ : {A B : Type 0} → Result A MailFault → (A → Result B MailFault) → Result B MailFault
-(Ok x) >>= f = f x
-(Err fault) >>= f = Err fault
+-- a fault but want of memory
+abbrev pub told : MailFault → Option MailFault
+told Memory = None
+told fault = Some fault
 
 -- What was returned is what the file says, unless memory ran out.
 abbrev pub Gives : {X : Type 0} → Result X MailFault → Result X MailFault → Type 0
-Gives (Ok x) said = said ≡ Ok x
-Gives (Err TooLarge) said = said ≡ Err TooLarge
-Gives (Err NoMailFrom) said = said ≡ Err NoMailFrom
-Gives (Err BadSender) said = said ≡ Err BadSender
-Gives (Err (BadRecipient line)) said = said ≡ Err (BadRecipient line)
-Gives (Err TooManyRecipients) said = said ≡ Err TooManyRecipients
-Gives (Err NoRecipient) said = said ≡ Err NoRecipient
-Gives (Err NoData) said = said ≡ Err NoData
-Gives (Err (BadHead line)) said = said ≡ Err (BadHead line)
-Gives (Err HeadTooLong) said = said ≡ Err HeadTooLong
-Gives (Err Memory) said = Unit {0}
+Gives answer said = GivesBy told (λ x. x) answer said
 
 -- a fault that isn't want of memory is the file's
 pub gives_fault : {X : Type 0} (fault : MailFault) (said : Result X MailFault) → Gives (Err fault) said → (fault ≡ Memory → ⊥) → said ≡ Err fault

@@ -6,6 +6,7 @@ use Rattle.std.specs.Cmp.Lexicographic.{slice_cmp}
 use Rattle.std.specs.List.{list_all, list_any, flat_map, filter_map, sum}
 use Rattle.std.specs.Option.{option_map_or}
 use Rattle.std.specs.Str.{bytes_eq}
+use Rattle.mj_address.specs.Grammar.{is_dot_atom}
 use Rattle.mj_head.specs.Head.{is_field_name}
 use Rattle.mj_plan.specs.declared.condition.Condition.{Condition}
 use Rattle.mj_plan.specs.declared.condition.Condition.TheVariants as condition
@@ -197,8 +198,13 @@ is_mapping (mapping.Addresses from to) = has_items 100 to
 is_mapping (mapping.Error from text) = is_line text
 is_mapping (mapping.Host from to) = true
 
+-- a user of the service is a local part (RFC 5321, 4.5.3.1.1)
+abbrev pub is_user : List ℕ → Bool
+is_user name = nat_le (length name) 64 && is_dot_atom name
+
 -- A plan that keeps every form, limit and reference.
 pub record IsSound (plan : Plan) : Type 0 where
+  pub local_users : list_all is_user plan.local_users ≡ true
   -- until the end of the year 2100
   pub start : plan.start < 4_133_980_800_000
   pub max_hops : is_between 1 1_000 plan.max_hops ≡ true

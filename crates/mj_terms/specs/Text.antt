@@ -23,6 +23,21 @@ trimmed text = trim_back (trim_front text)
 abbrev pub same_text : List ℕ → List ℕ → Bool
 same_text a b = str_eq_ignore_ascii_case a b
 
+-- the text up to the first such byte, or all of it
+abbrev pub before : ℕ → List ℕ → List ℕ
+before byte [] = []
+before byte (b ∷ text) = if b == byte then [] else b ∷ before byte text
+
+-- what stands behind the first such byte, or nothing
+abbrev pub after : ℕ → List ℕ → List ℕ
+after byte [] = []
+after byte (b ∷ text) = if b == byte then text else after byte text
+
+-- the same, if there is such a byte
+abbrev pub behind_byte : ℕ → List ℕ → Option (List ℕ)
+behind_byte byte [] = None
+behind_byte byte (b ∷ text) = if b == byte then Some text else behind_byte byte text
+
 -- what stands behind this front, if the text begins with it
 abbrev pub behind : List ℕ → List ℕ → Option (List ℕ)
 behind front text = if bytes_eq (take (length front) text) front then Some (drop (length front) text) else None

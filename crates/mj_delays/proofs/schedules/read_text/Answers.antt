@@ -9,7 +9,6 @@ loop-rest-init c = record {
   whole = rw (c.new-draft.ensures.attempts, c.new-draft.ensures.delays) (completed_start c.args.max_retries c.args.text.now);
   begun = omega arith;
   room = omega arith;
-  small = omega arith;
 }
 
 pub loop-rest-preserved : goal.loop-rest-preserved
@@ -26,5 +25,4 @@ loop-rest-preserved c =
           ∙ c.loop-rest.invariant.whole;
       begun = omega (arith, entry.some, added.attempts);
       room = omega (arith, c.next_part.ensures.shorter, ap (λ rest. left (option_copied rest)) c.in-Some.is);
-      small = omega (arith, entry.small, added.attempts);
     }

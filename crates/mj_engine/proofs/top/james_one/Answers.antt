@@ -1,21 +1,16 @@
-use Rattle.std.proofs.Common.{◌≡◌, ◌∙◌, Err, subst}
-use Rattle.std.proofs.lemmas.Option.{IfSome_then}
-use Rattle.mj_config_walk.specs.declared.fault.PlanFault.TheVariants.{Refused}
-use Rattle.mj_engine.specs.Run.{GivesOutput, output}
-use Rattle.mj_engine.specs.Top.{GrowsByLine}
-use Rattle.mj_engine.proofs.Names.{refused_plan}
+use Rattle.std.proofs.Common.{sym, subst, ◌∙◌}
+use Rattle.mj_engine.specs.Ends.{GrowsByLine}
+use Rattle.mj_engine.proofs.Endings.{run_ends, usage_ends}
 use Rattle.mj_engine.proofs.top.james_one.Goals as goal
 
-pub returns-in-Ok-fault_line-clause-config_text : goal.returns-in-Ok-fault_line-clause-config_text
-returns-in-Ok-fault_line-clause-config_text g c =
-    let kind = c.in-Err-Refused.kind in
-    let processor = c.in-Err-Refused.processor in
-    let step = c.in-Err-Refused.step in
-    λ _. (
-      kind,
-      processor,
-      step,
-      IfSome_then (g.F.Files.told c.args.files.now) c.in-Err-Refused.ensures.exact (λ told read. refused_plan told (Refused kind processor step) (subst (λ fault. GivesOutput (Err fault) (output told)) c.in-Err-Refused.field-0-is read)),
-      subst (GrowsByLine (g.S.Sink.told c.args.out.now) (g.S.Sink.told c.put_line-in-Ok-fault_line.new.out) (g.S.Sink.faults c.args.out.now) (g.S.Sink.faults c.put_line-in-Ok-fault_line.new.out))
-          (c.as_slice-in-Ok-fault_line.ensures ∙ c.in-Ok-fault_line.ensures) c.put_line-in-Ok-fault_line.ensures.line,
-    )
+pub returns-then-asks_run-clause-runs : goal.returns-then-asks_run-clause-runs
+returns-then-asks_run-clause-runs g c =
+    let run = c.run_command.ensures in
+    run_ends _ c.run_command.result (sym c.asks_run.ensures ∙ c.if-asks_run.true) run.status run.configuration run.read run.write run.report run.report_front
+    run.config_text run.read_text run.nothing
+
+pub returns-else-asks_run-clause-runs : goal.returns-else-asks_run-clause-runs
+returns-else-asks_run-clause-runs g c =
+    usage_ends _ (sym c.asks_run.ensures ∙ c.if-asks_run.false)
+    (subst (GrowsByLine (g.S.Sink.told c.args.out.now) (g.S.Sink.told c.put_line.new.out) (g.S.Sink.faults c.args.out.now) (g.S.Sink.faults c.put_line.new.out))
+    c.usage_line.ensures c.put_line.ensures.line)
