@@ -1,12 +1,12 @@
 //! The tables `[[processor]]`: their names first, since steps speak of them, and then their steps.
-ghost use Rattle.std.specs.Prelude.{◌≡◌, [], ◌≤◌, false, map, length, IfOk};
+ghost use Rattle.std.specs.Prelude.{◌≡◌, [], ◌∷◌, ◌++◌, ◌≤◌, false, map, length, IfOk};
 ghost use Rattle.std.specs.List.{list_any};
 ghost use Rattle.std.specs.Str.{bytes_eq};
 ghost use Rattle.toml.specs.View.{view, table_view};
 ghost use Rattle.mj_plan.specs.Sound.{is_reserved};
 ghost use Rattle.mj_config_walk.specs.Values.{GivesBy};
 ghost use Rattle.mj_terms.specs.Answers.{◌>>=◌ as ◌then◌};
-ghost use Rattle.mj_config_walk.specs.Walk.{Answers, AnswersBy, header_of, headers_from, located, names_of, new_name, processors_from, processors_of};
+ghost use Rattle.mj_config_walk.specs.Walk.{Answers, AnswersBy, deliveries, header_of, headers_from, located, names_of, new_name, processors_from, processors_of, steps_from};
 ghost use Rattle.mj_config.specs.Seen.{header_seen};
 ghost use Rattle.mj_config_walk.specs.declared.fault.PlanFault.TheVariants.{Refused};
 
@@ -74,11 +74,28 @@ fn headers<'a>(alloc: Global, tables: &[&'a Table]) -> Result<(Vec<Header<'a>>, 
     let mut names = Names::new(alloc);
     for table in tables {
         let place = headers.len() as u32 + 1;
-        let header = header_at(alloc, &names, place, table)?;
-        names.add(alloc, header.name)?;
-        headers.push(header)?;
+        headers.push(header_at(alloc, &mut names, place, table)?)?;
     }
     Ok((headers, names))
+}
+
+/// The header of the processor of this number. Its name is among the names then.
+fn header_at<'a>(
+    alloc: Global,
+    names: &mut Names,
+    place: u32,
+    table: &'a Table,
+) -> Result<Header<'a>, PlanFault>
+    ensures exact { AnswersBy header_seen result (located place 0 (header_of names.old (table_view table.now))) }
+    ensures names { IfOk result (λ header. names.new ≡ names.old ++ header.name.now ∷ []) }
+{
+    match read_header(alloc, names, table) {
+        Ok(header) => {
+            names.add(alloc, header.name)?;
+            Ok(header)
+        }
+        Err(refusal) => Err(fault_at(refusal, place, 0)),
+    }
 }
 
 /// The processors with their steps.
@@ -94,27 +111,27 @@ fn processors(
     let mut taken = Names::new(alloc);
     for header in headers {
         let place = processors.len() as u32 + 1;
-        let steps = steps(alloc, names, &mut taken, place, header.steps.as_slice())?;
-        let name = Bytes::from_slice(alloc, header.name)?;
-        processors.push(Processor { name, steps })?;
+        processors.push(processor_at(alloc, names, &mut taken, place, header)?)?;
     }
     Ok(processors)
 }
 
-/// The header of the processor of this number.
-fn header_at<'a>(
+/// The processor of this number. The names of its remote deliveries are taken then.
+fn processor_at(
     alloc: Global,
-    earlier: &Names,
+    names: &Names,
+    taken: &mut Names,
     place: u32,
-    table: &'a Table,
-) -> Result<Header<'a>, PlanFault>
-    ensures exact { AnswersBy header_seen result (located place 0 (header_of earlier.now (table_view table.now))) }
-    ensures new { IfOk result (λ header. list_any (bytes_eq header.name.now) earlier.now ≡ false) }
+    header: &Header,
+) -> Result<Processor, PlanFault>
+    ensures exact { AnswersBy (λ processor. processor.steps) result
+        (steps_from names.now taken.old place 1 (header_seen header.now).steps) }
+    ensures name { IfOk result (λ processor. processor.name ≡ header.now.name.now) }
+    ensures taken { IfOk result (λ processor. taken.new ≡ taken.old ++ deliveries processor.steps) }
 {
-    match read_header(alloc, earlier, table) {
-        Ok(header) => Ok(header),
-        Err(refusal) => Err(fault_at(refusal, place, 0)),
-    }
+    let steps = steps(alloc, names, taken, place, header.steps.as_slice())?;
+    let name = Bytes::from_slice(alloc, header.name)?;
+    Ok(Processor { name, steps })
 }
 
 /// The name and the steps of a processor, where these names stand before.

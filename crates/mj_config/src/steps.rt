@@ -101,10 +101,23 @@ fn mailet_in(
     ensures exact { Gives result (mailet_in names.now taken.old (table_view table.now)) }
     ensures taken { IfOk result (λ mailet. taken.new ≡ taken.old ++ deliveries_of mailet) }
 {
-    let class = text(required(table, "class")?)?;
-    let mailet = mailet_of(alloc, names, taken, class, table)?;
+    let mailet = mailet_at(alloc, names, taken, table)?;
     take_delivery(alloc, taken, &mailet)?;
     Ok(mailet)
+}
+
+/// The mailet of a step, whose remote delivery has a name that isn't taken.
+fn mailet_at(
+    alloc: Global,
+    names: &Names,
+    taken: &Names,
+    table: &Table,
+) -> Result<MailetKind, Refusal>
+    ensures exact { Gives result (mailet_in names.now taken.now (table_view table.now)) }
+    ensures new { IfOk result (λ mailet. IsNew taken.now mailet) }
+{
+    let class = text(required(table, "class")?)?;
+    mailet_of(alloc, names, taken, class, table)
 }
 
 /// Adds the name of a remote delivery to those that are taken.
