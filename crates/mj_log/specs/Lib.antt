@@ -1,5 +1,7 @@
 pub mod FrameLaws
 pub mod Gate
+pub mod Header
 pub mod Journal
 pub mod Log
+pub mod Places
 pub mod View

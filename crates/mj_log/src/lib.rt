@@ -2,6 +2,7 @@
 #![tactic(auto)]
 
 mod fault;
+mod frames;
 mod gate;
 mod load;
 mod log;

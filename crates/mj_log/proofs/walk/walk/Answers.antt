@@ -1,43 +1,53 @@
-use Rattle.std.proofs.Common.{arith, rules, ◌≡◌, ◌+◌, ◌-◌, ◌<◌, ℕ, List, length, take, drop, get_or, sym, ap, ◌∙◌, length-drop}
-use Rattle.std.proofs.lemmas.List.{take_all}
-use Rattle.std.proofs.lemmas.Slice.Eq.{bytes_eq-Decides}
-use Rattle.mj_log.specs.Journal.{magic}
-use Rattle.mj_log.specs.FrameLaws.{other_file}
-use Rattle.mj_log.proofs.Walks.{positive, walk_begins, walk_next, walk_ends, walk_breaks}
+use Rattle.std.proofs.Common.{arith, rules, ◌≡◌, ◌∙◌, ◌<◌, ◌≤◌, ◌+◌, ◌++◌, ◌∷◌, [], ℕ, List, length, get_or, IfSome, IsNone, sym, subst, refl}
+use Rattle.std.specs.Prelude.{Option}
+use Rattle.mj_disk.specs.Media.{Media}
+use Rattle.mj_disk.specs.Moments.{Now}
+use Rattle.mj_log.specs.Header.{IsFrame, StopsAt}
+use Rattle.mj_log.specs.Places.{AreSpaced, IsWalked}
+use Rattle.mj_log.specs.View.{Refuses}
+use Rattle.mj_log.specs.Journal.{payloads}
+use Rattle.mj_log.proofs.Placing.{spaced_none, spaced_next}
+use Rattle.mj_log.proofs.Walks.{HasFrames, begins_now, next_now, ends_now, stops_now}
 use Rattle.mj_log.proofs.walk.walk.Goals as goal
 
-pub loop-place-init : goal.loop-place-init
-loop-place-init c =
-    let begins : take 8 c.args.bytes.now ≡ magic = (bytes_eq-Decides (take 8 c.args.bytes.now) magic).0 (sym c.if-not-has_magic.ensures) in
-    record { frames = walk_begins c.args.bytes.now begins; within = omega arith; counts = omega arith }
+pub loop-next-init : goal.loop-next-init
+loop-next-init g c = record {
+  same = refl;
+  frames = subst (λ (l : List ℕ). Now (g.D.Disk.moments c.args.disk.now) (λ m. HasFrames l 8 m.bytes)) (sym c.requires.none) (begins_now _ c.requires.begins);
+  spaced = subst (λ (l : List ℕ). AreSpaced l 8) (sym c.requires.none) (spaced_none 8);
+  within = omega arith;
+  later = omega arith;
+}
 
-pub loop-place-preserved : goal.loop-place-preserved
-loop-place-preserved c =
-    let end = c.loop-place.place.end in
-    let bytes = c.args.bytes.now in
-    let low : end < length bytes = c.loop-place.invariant.within in
-    let rest : List ℕ = take (length bytes - (end + 1)) (drop (end + 1) bytes) in
-    let same : rest ≡ drop (end + 1) bytes = take_all (length bytes - (end + 1)) (drop (end + 1) bytes) (omega (arith, length-drop (end + 1) bytes)) in
-    let e = c.in-Some.ensures.some in
-    let gate : 0 < get_or bytes end 0 = positive (get_or bytes end 0) c.loop-place-test.true in
-    let long : 4 + c.in-Some.size < length rest = e.1 in
-    let size : length rest ≡ length bytes - (end + 1) = ap (λ (l : List ℕ). length l) same ∙ length-drop (end + 1) bytes in
+pub loop-next-preserved : goal.loop-next-preserved
+loop-next-preserved g c =
+    let i = c.loop-next.invariant in
+    let h = g.D.Disk.moments c.args.disk.now in
+    let e = c.in_ok-next.ensures in
+    let found = subst (λ (o : Option ℕ). IfSome o (λ next. Now (g.D.Disk.moments c.loop-next.disk) (λ m. IsFrame m.bytes c.loop-next.end next))) c.in-Some.is e.frame in
+    let opened = subst (λ (o : Option ℕ). IfSome o (λ next. (c.pass.new.gates.items ≡ c.loop-next.gates.items ++ c.loop-next.end ∷ []) × (c.loop-next.end + 5 ≤ next) × (next < c.args.file))) c.in-Some.is e.open in
+    let frame = subst (λ (k : List Media). Now k (λ m. IsFrame m.bytes c.loop-next.end c.in-Some.next)) i.same found in
     record {
-      frames = walk_next c.loop-place.place.count end c.in-Some.size bytes rest c.loop-place.invariant.frames low gate same e.0 long e.2;
-      within = omega (arith, long, size, low);
-      counts = omega arith;
+      same = e.same ∙ i.same;
+      frames = subst (λ (l : List ℕ). Now h (λ m. HasFrames l c.in-Some.next m.bytes)) (sym opened.0) (next_now h c.loop-next.gates.items c.loop-next.end c.in-Some.next c.args.file c.requires.file i.frames frame opened.1 opened.2);
+      spaced = subst (λ (l : List ℕ). AreSpaced l c.in-Some.next) (sym opened.0) (spaced_next c.loop-next.gates.items c.loop-next.end c.in-Some.next i.spaced opened.1);
+      within = opened.2;
+      later = omega (arith, i.later, e.cause.later);
     }
 
-pub returns-then-not-has_magic-clause-fault : goal.returns-then-not-has_magic-clause-fault
-returns-then-not-has_magic-clause-fault c = (other_file c.args.bytes.now c.requires.long (sym c.if-not-has_magic.ensures), λ n e. cc)
+pub returns-in_err-next-clause-fault : goal.returns-in_err-next-clause-fault
+returns-in_err-next-clause-fault g c =
+    let i = c.loop-next.invariant in
+    let fault = c.in_err-next.field-0.0 in
+    let stops = subst (λ (k : List Media). Now k (λ m. StopsAt fault (length c.loop-next.gates.items) m.bytes c.loop-next.end)) i.same c.in_err-next.ensures.fault in
+    let refused : Now (g.D.Disk.moments c.args.disk.now) (λ m. Refuses fault (payloads m.bytes)) = stops_now fault _ c.loop-next.gates.items c.loop-next.end c.args.file c.requires.file i.frames i.within c.requires.long stops in
+    search rules
 
-pub returns-in_default-clause-fault : goal.returns-in_default-clause-fault
-returns-in_default-clause-fault c =
-    let end = c.loop-place.place.end in
-    let bytes = c.args.bytes.now in
-    let rest : List ℕ = take (length bytes - (end + 1)) (drop (end + 1) bytes) in
-    let same : rest ≡ drop (end + 1) bytes = take_all (length bytes - (end + 1)) (drop (end + 1) bytes) (omega (arith, length-drop (end + 1) bytes)) in
-    (walk_breaks c.loop-place.place.count end bytes rest c.loop-place.invariant.frames c.loop-place.invariant.within c.requires.long (positive (get_or bytes end 0) c.loop-place-test.true) same (c.in_default.ensures.none (search rules)), λ n e. cc)
-
-pub returns-clause-found : goal.returns-clause-found
-returns-clause-found c = walk_ends c.loop-place.place.count c.loop-place.place.end c.args.bytes.now c.loop-place.invariant.frames c.loop-place.invariant.within c.loop-place-test.false
+pub returns-in-None-clause-found : goal.returns-in-None-clause-found
+returns-in-None-clause-found g c =
+    let i = c.loop-next.invariant in
+    let h = g.D.Disk.moments c.args.disk.now in
+    let none : IsNone c.in_ok-next.field-0 = subst (λ (o : Option ℕ). IsNone o) (sym c.in-None.is) refl in
+    let closed = c.in_ok-next.ensures.closed none in
+    subst (λ (l : List ℕ). Now h (λ m. IsWalked l c.loop-next.end m.bytes)) (sym closed.0)
+    (ends_now h c.loop-next.gates.items c.loop-next.end c.args.file c.requires.file i.frames i.within (subst (λ (k : List Media). Now k (λ m. get_or m.bytes c.loop-next.end 0 ≡ 0)) i.same closed.1))

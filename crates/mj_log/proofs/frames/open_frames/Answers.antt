@@ -1,7 +1,7 @@
 use Rattle.std.proofs.Common.{◌≡◌, ◌∷◌, ◌++◌, ◌∙◌, sym, ap, List, ℕ}
 use Rattle.mj_log.specs.FrameLaws.{framed}
-use Rattle.mj_log.proofs.Puts.{joined_next}
-use Rattle.mj_log.proofs.log.open_frames.Goals as goal
+use Rattle.mj_log.proofs.Batches.{joined_next}
+use Rattle.mj_log.proofs.frames.open_frames.Goals as goal
 
 pub loop-payload-preserved : goal.loop-payload-preserved
 loop-payload-preserved c =
