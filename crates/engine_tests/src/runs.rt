@@ -124,59 +124,70 @@ fn ran(
     Ok(Outcome { status, out })
 }
 
+/// Whether a run over these files ends with this status and writes this.
+fn ends(
+    alloc: Global,
+    words: &[&str],
+    files: &mut MemoryFiles,
+    write: u64,
+    (status, text): (u8, &str),
+) -> Result<bool, Memory> {
+    let outcome = ran(alloc, words, files, write)?;
+    Ok(outcome.status == status && outcome.out.bytes() == text.as_bytes())
+}
+
+/// The same over the mail and a configuration that deposits it, where this call on the files and this write fail.
+fn plain_ends(
+    alloc: Global,
+    words: &[&str],
+    (call, write): (u64, u64),
+    want: (u8, &str),
+) -> Result<bool, Memory> {
+    let mut files = plain(alloc, ("mails/a.mail", MAIL), call)?;
+    ends(alloc, words, &mut files, write, want)
+}
+
+/// Fails where it isn't so. The case is what is looked at.
 fn assert_so(rt: &impl Abort, is_so: bool, case: &str) {
     assert!(rt; is_so, "at {case}");
 }
 
-/// Fails where the run ended with another status, or wrote something else.
-fn is(rt: &impl Abort, outcome: &Outcome, status: u8, text: &str) {
-    assert_so(rt, outcome.status == status, text);
-    assert_so(rt, outcome.out.bytes() == text.as_bytes(), text);
-}
-
-fn ends_with(rt: &impl Abort, outcome: &Outcome, end: &str) {
-    assert_so(rt, outcome.status == 0, end);
-    assert_so(rt, outcome.out.bytes().ends_with(end.as_bytes()), end);
-}
-
-/// The words, the calls on the files and on the sink that fail, the status, and what is written.
-const ENDINGS: [(&[&str], u64, u64, u8, &str); 13] = [
-    (&["run"], 0, 0, 0, DEPOSITED),
-    (&[""], 0, 0, 2, USAGE),
-    (&["fly"], 0, 0, 2, USAGE),
-    (&["Run"], 0, 0, 2, USAGE),
-    (&["--help"], 0, 0, 2, USAGE),
-    (&[], 0, 0, 2, USAGE),
-    (&["run", "run"], 0, 0, 2, USAGE),
-    (&[], 0, 1, 2, ""),
-    // The configuration is the first call on the files, the folder the second, and its one mail the third.
-    (&["run"], 1, 0, 5, READ),
-    (&["run"], 2, 0, 5, READ),
-    (&["run"], 3, 0, 5, READ),
-    (&["run"], 4, 0, 0, DEPOSITED),
-    (&["run"], 0, 1, 6, ""),
+/// What the row looks at, the words, the calls on the files and on the sink that fail, the status, and what is written.
+const ENDINGS: [(&str, &[&str], (u64, u64), (u8, &str)); 13] = [
+    ("run", &["run"], (0, 0), (0, DEPOSITED)),
+    ("an empty word", &[""], (0, 0), (2, USAGE)),
+    ("fly", &["fly"], (0, 0), (2, USAGE)),
+    ("Run", &["Run"], (0, 0), (2, USAGE)),
+    ("--help", &["--help"], (0, 0), (2, USAGE)),
+    ("no word", &[], (0, 0), (2, USAGE)),
+    ("run twice", &["run", "run"], (0, 0), (2, USAGE)),
+    ("a failing usage line", &[], (0, 1), (2, "")),
+    ("a failing configuration", &["run"], (1, 0), (5, READ)),
+    ("a failing folder", &["run"], (2, 0), (5, READ)),
+    ("a failing mail", &["run"], (3, 0), (5, READ)),
+    ("no fourth call", &["run"], (4, 0), (0, DEPOSITED)),
+    ("a failing report", &["run"], (0, 1), (6, "")),
 ];
 
 #[test]
 fn tells_what_failed(rt: HostRuntime) -> Result<(), Fail> {
-    let alloc = rt.alloc();
-    for (words, call, write, status, text) in ENDINGS {
-        let mut files = plain(alloc, ("mails/a.mail", MAIL), call)?;
-        is(&rt, &ran(alloc, words, &mut files, write)?, status, text);
+    for (case, words, failing, want) in ENDINGS {
+        assert_so(&rt, plain_ends(rt.alloc(), words, failing, want)?, case);
     }
     Ok(())
 }
 
+/// Whether the configuration is refused before the folder is listed, which would fail.
+fn is_refused_first(alloc: Global, configuration: &str, line: &str) -> Result<bool, Memory> {
+    let mut files = folder(alloc, configuration, ("", ""), 2)?;
+    ends(alloc, &["run"], &mut files, 0, (3, line))
+}
+
 #[test]
-fn refuses_a_configuration_before_the_folder_is_listed(rt: HostRuntime) -> Result<(), Fail> {
-    let alloc = rt.alloc();
-    let mut files = folder(alloc, "spool = 7\n", ("", ""), 2)?;
-    is(
-        &rt,
-        &ran(alloc, &["run"], &mut files, 0)?,
-        3,
-        "fault config WrongType 0 0\n",
-    );
+fn judges_the_configuration_first(rt: HostRuntime) -> Result<(), Fail> {
+    let line = "fault config WrongType 0 0\n";
+    let is_so = is_refused_first(rt.alloc(), "spool = 7\n", line)?;
+    assert_so(&rt, is_so, "no table");
     Ok(())
 }
 
@@ -190,6 +201,14 @@ fn long_path(alloc: Global, letters: usize) -> Result<String, Memory> {
     Ok(path)
 }
 
+/// Whether the report of a mail in a file with a name of so many letters ends so, where this call fails.
+fn report_ends_with(alloc: Global, letters: usize, call: u64, end: &str) -> Result<bool, Memory> {
+    let path = long_path(alloc, letters)?;
+    let mut files = plain(alloc, (path.as_str(), MAIL), call)?;
+    let outcome = ran(alloc, &["run"], &mut files, 0)?;
+    Ok(outcome.status == 0 && outcome.out.bytes().ends_with(end.as_bytes()))
+}
+
 /// How many letters a name has, the call that fails, and the end of the report. A file whose name is too long isn't read.
 const NAMES: [(usize, u64, &str); 3] = [
     (4091, 0, " ann@example.org 23\n"),
@@ -199,34 +218,40 @@ const NAMES: [(usize, u64, &str); 3] = [
 
 #[test]
 fn refuses_long_names(rt: HostRuntime) -> Result<(), Fail> {
-    let alloc = rt.alloc();
     for (letters, call, end) in NAMES {
-        let path = long_path(alloc, letters)?;
-        let mut files = plain(alloc, (path.as_str(), MAIL), call)?;
-        ends_with(&rt, &ran(alloc, &["run"], &mut files, 0)?, end);
+        assert_so(&rt, report_ends_with(rt.alloc(), letters, call, end)?, end);
     }
     Ok(())
 }
 
+/// Whether this is the report of a folder with this file.
+fn reports_file(alloc: Global, file: (&str, &str), report: &str) -> Result<bool, Memory> {
+    let mut files = plain(alloc, file, 0)?;
+    ends(alloc, &["run"], &mut files, 0, (0, report))
+}
+
 /// A file of the folder, where there is one, and the report.
-const FILES: [(&str, &str, &str); 3] = [
-    ("", "", ""),
-    ("mails/a.mail", MAIL, DEPOSITED),
+const FILES: [((&str, &str), &str); 3] = [
+    (("", ""), ""),
+    (("mails/a.mail", MAIL), DEPOSITED),
     (
-        "mails/a%b \u{e9}.mail",
-        "",
+        ("mails/a%b \u{e9}.mail", ""),
         "refused a%25b%20%C3%A9.mail NoMailFrom\n",
     ),
 ];
 
 #[test]
 fn reports_the_files_of_a_folder(rt: HostRuntime) -> Result<(), Fail> {
-    let alloc = rt.alloc();
-    for (path, text, report) in FILES {
-        let mut files = plain(alloc, (path, text), 0)?;
-        is(&rt, &ran(alloc, &["run"], &mut files, 0)?, 0, report);
+    for (file, report) in FILES {
+        assert_so(&rt, reports_file(rt.alloc(), file, report)?, report);
     }
     Ok(())
+}
+
+/// Whether this is the report of the mail where the processor `a` has these steps.
+fn reports_path(alloc: Global, hops: &str, steps: &str, report: &str) -> Result<bool, Memory> {
+    let mut files = to_a(alloc, hops, steps)?;
+    ends(alloc, &["run"], &mut files, 0, (0, report))
 }
 
 /// What stands behind `[spool]` and what the processor `a` has, and the report of one mail.
@@ -261,10 +286,8 @@ const PATHS: [(&str, &str, &str); 6] = [
 
 #[test]
 fn carries_mails_from_processor_to_processor(rt: HostRuntime) -> Result<(), Fail> {
-    let alloc = rt.alloc();
     for (hops, steps, report) in PATHS {
-        let mut files = to_a(alloc, hops, steps)?;
-        is(&rt, &ran(alloc, &["run"], &mut files, 0)?, 0, report);
+        assert_so(&rt, reports_path(rt.alloc(), hops, steps, report)?, report);
     }
     Ok(())
 }
