@@ -149,7 +149,7 @@ def main():
         for first in range(0, given.files, AT_ONCE):
             contents = [any_file(draw) for _ in range(min(AT_ONCE, given.files - first))]
             wanted = [expected(journal, content) for content in contents]
-            wrong = disagreeing(given.program, Path(folder), contents, wanted)
+            wrong = disagreeing(given.program.resolve(), Path(folder), contents, wanted)
             if wrong:
                 keep(wrong)
                 sys.exit(1)
