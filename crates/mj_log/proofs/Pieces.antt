@@ -28,14 +28,6 @@ module _ (places : List ℕ) (end number : ℕ) (low : number < length places) w
   long_enough [] held at within = tt
   long_enough (m ∷ past) j at within = omega (arith, ap (λ (l : List ℕ). length l) j.whole, length-append j.front j.junk, j.placed.size)
 
-  pub size_is : (h : List Media) → Now h (IsHeld places end) → (ps : List (List ℕ)) → told_of h (length places) ≡ Some ps → size_at places end number ≡ length (get_or ps number [])
-  size_is [] held ps told = absurd (cc)
-  size_is (m ∷ past) j ps told =
-      let gate = get_or places number end in
-      let within = apart j.placed.spaced in
-      sym (length-take-le (size_at places end number) (drop (gate + 5) m.bytes) (let long = long_enough (m ∷ past) j end (omega arith) in omega (arith, length-drop (gate + 5) m.bytes)))
-      ∙ ap (λ (l : List ℕ). length l) (stands m past j ps told)
-
   -- a read that gives what stands at a place of the payload gives that part of it
   pub part_is : (h : List Media) → Now h (IsHeld places end) → (ps : List (List ℕ)) → told_of h (length places) ≡ Some ps → (from n : ℕ) (old new : List ℕ) → from + length old ≤ size_at places end number → length new ≡ length old → n ≤ length old
       → Now h (λ m. take n new ≡ take (length old) (drop (get_or places number end + 5 + from) m.bytes)) → new ≡ take (length old) (drop from (get_or ps number []))

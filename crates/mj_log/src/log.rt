@@ -198,7 +198,8 @@ impl<D: Disk + Drop> Log<D> {
 
     /// The number of payloads.
     pub fn count(&self) -> u64
-        ensures { result ≡ length self.now.places }
+        ensures places { result ≡ length self.now.places }
+        ensures payloads { (ps : List (List ℕ)) → told D.moments self.now ≡ Some ps → result ≡ length ps }
     {
         self.places.len() as u64
     }

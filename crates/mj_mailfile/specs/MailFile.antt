@@ -146,10 +146,8 @@ IsRecipientLine bytes text rest = (number : ℕ) (found : List Mailbox)
 
 -- the recipients that were read, and the bytes behind their lines
 abbrev pub GivesFound : Result (List Mailbox × Bor (List ℕ)) MailFault → Result (List Mailbox × List (List ℕ)) MailFault → Type 0
-GivesFound (Ok found) said = said ≡ Ok (found.0, lines found.1.now)
-GivesFound (Err fault) said = Gives (Err fault) said
+GivesFound answer said = GivesBy told (λ found. (found.0, lines found.1.now)) answer said
 
 -- the message that was read
 abbrev pub GivesBytes : Result (Bor (List ℕ)) MailFault → Result (List ℕ) MailFault → Type 0
-GivesBytes (Ok message) said = said ≡ Ok message.now
-GivesBytes (Err fault) said = Gives (Err fault) said
+GivesBytes answer said = GivesBy told (λ message. message.now) answer said

@@ -23,13 +23,16 @@ const HELD: [(&[u8], &[u8]); 8] = [
     (b"mails/a", b"short name"),
 ];
 
+fn file(alloc: Global, path: &[u8], bytes: &[u8]) -> Result<MemoryFile, Memory> {
+    let path = Bytes::from_slice(alloc, path)?;
+    let bytes = Bytes::from_slice(alloc, bytes)?;
+    Ok(MemoryFile { path, bytes })
+}
+
 fn held(alloc: Global, table: &[(&[u8], &[u8])]) -> Result<Items<MemoryFile>, Memory> {
     let mut files = Items::new(alloc);
     for &(path, bytes) in table {
-        files.push(MemoryFile {
-            path: Bytes::from_slice(alloc, path)?,
-            bytes: Bytes::from_slice(alloc, bytes)?,
-        })?;
+        files.push(file(alloc, path, bytes)?)?;
     }
     Ok(files)
 }
@@ -43,20 +46,27 @@ fn numbers(alloc: Global, table: &[u64]) -> Result<Items<u64>, Memory> {
 }
 
 /// Files in memory whose named calls fail.
-fn failing_files(rt: &impl Abort, alloc: Global, failing: &[u64]) -> Result<MemoryFiles, Memory> {
+fn failing_files(alloc: Global, failing: &[u64]) -> Result<MemoryFiles, Memory> {
     let files = held(alloc, &HELD)?;
-    assert!(rt; are_files(files.as_slice()));
-    Ok(MemoryFiles::make(files, numbers(alloc, failing)?))
+    if are_files(files.as_slice()) {
+        Ok(MemoryFiles::make(files, numbers(alloc, failing)?))
+    } else {
+        Err(Memory)
+    }
 }
 
-fn sure_files(rt: &impl Abort, alloc: Global) -> Result<SureFiles, Memory> {
+fn sure_files(alloc: Global) -> Result<SureFiles, Memory> {
     let files = held(alloc, &HELD)?;
-    assert!(rt; are_files(files.as_slice()));
-    Ok(SureFiles::make(files))
+    if are_files(files.as_slice()) {
+        Ok(SureFiles::make(files))
+    } else {
+        Err(Memory)
+    }
 }
 
-fn assert_text(rt: &impl Abort, text: &[u8], want: &[u8]) {
-    assert_eq!(rt; text, want);
+/// Fails where it isn't so. The case is what is looked at.
+fn assert_so(rt: &impl Abort, is_so: bool, case: &str) {
+    assert!(rt; is_so, "at {case}");
 }
 
 /// The texts, each with a line end behind it.
@@ -100,7 +110,7 @@ fn check_lists<F: Files>(
     table: &[(&str, &[u8])],
 ) -> Result<(), FilesError> {
     for &(folder, want) in table {
-        assert!(rt; lists(alloc, files, (folder, want))?, "in {folder}");
+        assert_so(rt, lists(alloc, files, (folder, want))?, folder);
     }
     Ok(())
 }
@@ -113,10 +123,7 @@ fn check_reads<F: Files>(
     table: &[(&str, usize, Option<&[u8]>)],
 ) -> Result<(), FilesError> {
     for &(path, limit, want) in table {
-        assert!(rt;
-            reads(alloc, files, (path, limit, want))?,
-            "{path} at {limit}"
-        );
+        assert_so(rt, reads(alloc, files, (path, limit, want))?, path);
     }
     Ok(())
 }
@@ -151,22 +158,13 @@ fn check_held<F: Files>(rt: &impl Abort, alloc: Global, files: &mut F) -> Result
 #[test]
 fn files_in_memory_are_listed_and_read(rt: HostRuntime) -> Result<(), Fail> {
     let alloc = rt.alloc();
-    check_held(&rt, alloc, &mut sure_files(&rt, alloc)?)?;
-    check_held(&rt, alloc, &mut failing_files(&rt, alloc, &[])?)?;
+    check_held(&rt, alloc, &mut sure_files(alloc)?)?;
+    check_held(&rt, alloc, &mut failing_files(alloc, &[])?)?;
     Ok(())
 }
 
-/// The numbers of the failing calls, and whether a list, a read, a list and a read fail.
-const FAILING: [(&[u64], [bool; 4]); 5] = [
-    (&[], [false, false, false, false]),
-    (&[1], [true, false, false, false]),
-    (&[2], [false, true, false, false]),
-    (&[4, 3], [false, false, true, true]),
-    (&[0, 5], [false, false, false, false]),
-];
-
-/// Call number k: a list where k is even, else a read.
-fn called(alloc: Global, files: &mut MemoryFiles, k: usize) -> Result<bool, FilesError> {
+/// What call number k gives: a list where k is even, else a read.
+fn called(alloc: Global, files: &mut MemoryFiles, k: u64) -> Result<bool, FilesError> {
     if k % 2 == 0 {
         lists(alloc, files, ("mails2", b"c.mail\n"))
     } else {
@@ -174,32 +172,55 @@ fn called(alloc: Global, files: &mut MemoryFiles, k: usize) -> Result<bool, File
     }
 }
 
+/// Whether call number k does what it should, where these are to fail.
+fn is_as_told(alloc: Global, files: &mut MemoryFiles, failing: &[u64], k: u64) -> bool {
+    let found = called(alloc, files, k);
+    if failing.contains(&k) {
+        found == Err(FilesError::Failed)
+    } else {
+        found == Ok(true)
+    }
+}
+
+/// Whether the first calls of these files do what they should, where these are to fail.
+fn are_as_told(alloc: Global, failing: &[u64]) -> Result<bool, Memory> {
+    let mut files = failing_files(alloc, failing)?;
+    let mut all = true;
+    for k in 1..=4 {
+        all &= is_as_told(alloc, &mut files, failing, k);
+    }
+    Ok(all)
+}
+
+/// A name for the row, and the numbers of the failing calls.
+const FAILING: [(&str, &[u64]); 5] = [
+    ("none", &[]),
+    ("the first", &[1]),
+    ("the second", &[2]),
+    ("the last two", &[4, 3]),
+    ("none of these", &[0, 5]),
+];
+
 #[test]
 fn named_calls_on_files_fail(rt: HostRuntime) -> Result<(), Fail> {
-    let alloc = rt.alloc();
-    for (failing, want) in FAILING {
-        let mut files = failing_files(&rt, alloc, failing)?;
-        for (k, fails) in want.into_iter().enumerate() {
-            let wanted = if fails {
-                Err(FilesError::Failed)
-            } else {
-                Ok(true)
-            };
-            let is_wanted = called(alloc, &mut files, k) == wanted;
-            assert!(rt; is_wanted, "call {k} of {failing:?}");
-        }
+    for (case, failing) in FAILING {
+        assert_so(&rt, are_as_told(rt.alloc(), failing)?, case);
     }
     Ok(())
 }
 
-/// Lists of files, and whether their paths are UTF-8 and no two are the same.
-const JUDGED: [(&[(&[u8], &[u8])], bool); 6] = [
-    (&[], true),
-    (&[(b"", b"\xFF")], true),
-    (&[(b"a", b"1"), (b"\xC3\xA4", b"2")], true),
-    (&[(b"a", b"1"), (b"b", b"1"), (b"a", b"2")], false),
-    (&[(b"a\xFF", b"1")], false),
-    (&[(b"a", b"1"), (b"\xC3", b"2")], false),
+/// Lists of files whose paths are UTF-8, and no two of which are the same.
+const JUDGED_WELL: [&[(&[u8], &[u8])]; 3] = [
+    &[],
+    &[(b"", b"\xFF")],
+    &[(b"a", b"1"), (b"\xC3\xA4", b"2")],
+];
+
+/// Lists of which this isn't so.
+const JUDGED_ILL: [&[(&[u8], &[u8])]; 3] = [
+    &[(b"a", b"1"), (b"b", b"1"), (b"a", b"2")],
+    &[(b"a\xFF", b"1")],
+    &[(b"a", b"1"), (b"\xC3", b"2")],
 ];
 
 fn judged(alloc: Global, table: &[(&[u8], &[u8])]) -> Result<bool, Memory> {
@@ -208,8 +229,11 @@ fn judged(alloc: Global, table: &[(&[u8], &[u8])]) -> Result<bool, Memory> {
 
 #[test]
 fn paths_are_judged(rt: HostRuntime) -> Result<(), Fail> {
-    for (k, (files, want)) in JUDGED.into_iter().enumerate() {
-        assert_eq!(rt; judged(rt.alloc(), files)?, want, "row {k}");
+    for files in JUDGED_WELL {
+        assert_so(&rt, judged(rt.alloc(), files)?, "good paths");
+    }
+    for files in JUDGED_ILL {
+        assert_so(&rt, !judged(rt.alloc(), files)?, "bad paths");
     }
     Ok(())
 }
@@ -218,34 +242,36 @@ fn paths_are_judged(rt: HostRuntime) -> Result<(), Fail> {
 const PIECES: [&[u8]; 3] = [b"one\n", b"two\n", b"three\n"];
 
 /// The numbers of the failing writes, and what is written.
-const WRITTEN: [(&[u64], &[u8]); 4] = [
-    (&[], b"one\ntwo\nthree\n"),
-    (&[1], b"two\nthree\n"),
-    (&[2], b"one\nthree\n"),
-    (&[3, 2, 9], b"one\n"),
+const WRITTEN: [(&[u64], &str); 4] = [
+    (&[], "one\ntwo\nthree\n"),
+    (&[1], "two\nthree\n"),
+    (&[2], "one\nthree\n"),
+    (&[3, 2, 9], "one\n"),
 ];
 
-fn check_sink(rt: &impl Abort, sink: &mut MemorySink, failing: &[u64], want: &[u8]) {
+/// Whether just these writes of the pieces fail.
+fn fails_as_told(sink: &mut MemorySink, failing: &[u64]) -> bool {
+    let mut all = true;
     for (call, piece) in (1..=3).zip(PIECES) {
-        let fails = sink.write(piece).is_err();
-        assert_eq!(rt;
-            fails,
-            failing.contains(&call),
-            "call {call} of {failing:?}"
-        );
+        all &= sink.write(piece).is_err() == failing.contains(&call);
     }
-    assert_eq!(rt; sink.bytes(), want, "after {failing:?}");
+    all
+}
+
+/// Whether these writes fail, and what is written is this.
+fn writes(alloc: Global, failing: &[u64], want: &str) -> Result<bool, Memory> {
+    let mut sink = MemorySink::make(alloc, numbers(alloc, failing)?);
+    let is_as_told = fails_as_told(&mut sink, failing);
+    Ok(is_as_told && sink.bytes() == want.as_bytes())
 }
 
 #[test]
 fn sinks_take_pieces(rt: HostRuntime) -> Result<(), Fail> {
-    let alloc = rt.alloc();
     for (failing, want) in WRITTEN {
-        let mut sink = MemorySink::make(alloc, numbers(alloc, failing)?);
-        check_sink(&rt, &mut sink, failing, want);
+        assert_so(&rt, writes(rt.alloc(), failing, want)?, want);
     }
     for piece in PIECES {
-        assert_eq!(rt; SureSink.write(piece), Ok(()));
+        assert_so(&rt, SureSink.write(piece).is_ok(), "a sure sink");
     }
     Ok(())
 }
@@ -284,24 +310,23 @@ fn make_files(rt: HostRuntime) -> io::Result<()> {
     Ok(())
 }
 
+/// What a device over the folder of those files must answer. A folder is no file, and the next read is as before.
+fn check_made<F: Files>(rt: &impl Abort, alloc: Global, files: &mut F) -> Result<(), FilesError> {
+    check_lists(rt, alloc, files, &MADE_NAMES)?;
+    check_reads(rt, alloc, files, &READS)?;
+    check_reads(rt, alloc, files, &MISSING)?;
+    let is_failed = reads(alloc, files, ("mails", WHOLE, None)) == Err(FilesError::Failed);
+    assert_so(rt, is_failed, "a folder");
+    check_reads(rt, alloc, files, &[("mails/a.mail", WHOLE, Some(b"first"))])
+}
+
 #[test]
 fn files_of_a_folder_are_listed_and_read(rt: HostRuntime) -> Result<(), Fail> {
     let alloc = rt.alloc();
     let mut files = FolderFiles::make(rt);
     check_lists(&rt, alloc, &mut files, &[("mails", b"")])?;
     make_files(rt)?;
-    check_lists(&rt, alloc, &mut files, &MADE_NAMES)?;
-    check_reads(&rt, alloc, &mut files, &READS)?;
-    check_reads(&rt, alloc, &mut files, &MISSING)?;
-    // a folder is no file, and the next read is as before
-    let is_failed = reads(alloc, &mut files, ("mails", WHOLE, None)) == Err(FilesError::Failed);
-    assert!(rt; is_failed);
-    check_reads(
-        &rt,
-        alloc,
-        &mut files,
-        &[("mails/a.mail", WHOLE, Some(b"first"))],
-    )?;
+    check_made(&rt, alloc, &mut files)?;
     Ok(())
 }
 
@@ -313,36 +338,53 @@ fn large(alloc: Global) -> Result<Vec<u8>, AllocError> {
     Ok(content)
 }
 
+/// Whether reads of the large file up to these limits give its front.
+fn reads_fronts<F: Files>(
+    alloc: Global,
+    files: &mut F,
+    content: &[u8],
+) -> Result<bool, FilesError> {
+    let mut all = true;
+    for limit in [WHOLE, 200_001, 200_000, 199_999, 65_536, 1] {
+        let want = content.get(..limit).unwrap_or(content);
+        all &= reads(alloc, files, ("large", limit, Some(want)))?;
+    }
+    Ok(all)
+}
+
 #[test]
 fn large_files_come_whole(rt: HostRuntime) -> Result<(), Fail> {
-    let alloc = rt.alloc();
-    let content = large(alloc)?;
+    let content = large(rt.alloc())?;
     fs::write(&rt, "large", content.as_slice())?;
-    let mut files = FolderFiles::make(rt);
-    for limit in [WHOLE, 200_001, 200_000, 199_999, 65_536, 1] {
-        let want = content.get(..limit).unwrap_or(content.as_slice());
-        assert!(rt;
-            reads(alloc, &mut files, ("large", limit, Some(want)))?,
-            "at {limit}"
-        );
-    }
+    let is_so = reads_fronts(rt.alloc(), &mut FolderFiles::make(rt), &content)?;
+    assert_so(&rt, is_so, "a large file");
     Ok(())
 }
 
 #[test]
 fn standard_output_takes_a_line(rt: HostRuntime) {
     let mut sink = OutSink::make(rt);
-    assert_eq!(rt; sink.write(b"one line\n"), Ok(()));
-    assert_eq!(rt; sink.write(b""), Ok(()));
+    assert_so(&rt, sink.write(b"one line\n").is_ok(), "a line");
+    assert_so(&rt, sink.write(b"").is_ok(), "nothing");
 }
 
-/// Lines to a wire whose second call fails, and whether each fails.
-const LINES: [(&[u8], bool); 3] = [(b"one", false), (b"two", true), (b"three", false)];
+/// Lines to a wire.
+const LINES: [&[u8]; 3] = [b"one", b"two", b"three"];
 
-fn check_memory_wire(rt: &impl Abort, wire: &mut MemoryWire) {
-    for (line, fails) in LINES {
-        assert_eq!(rt; wire.present(line).is_err(), fails, "{line:?}");
+/// Whether just these calls with the lines fail.
+fn presents_as_told(wire: &mut MemoryWire, failing: &[u64]) -> bool {
+    let mut all = true;
+    for (call, line) in (1..=3).zip(LINES) {
+        all &= wire.present(line).is_err() == failing.contains(&call);
     }
+    all
+}
+
+/// Whether these calls fail, and the wire holds these lines.
+fn holds(alloc: Global, failing: &[u64], want: &[u8]) -> Result<bool, Memory> {
+    let mut wire = MemoryWire::make(alloc, numbers(alloc, failing)?);
+    let is_as_told = presents_as_told(&mut wire, failing);
+    Ok(is_as_told && lines(alloc, wire.lines().as_slice())?.as_slice() == want)
 }
 
 /// Whether the lines were all presented.
@@ -357,22 +399,19 @@ fn presents(rt: HostRuntime, lines: &[&[u8]]) -> bool {
 
 #[test]
 fn wires_take_lines(rt: HostRuntime) -> Result<(), Fail> {
-    let alloc = rt.alloc();
-    let mut wire = MemoryWire::make(alloc, numbers(alloc, &[2])?);
-    check_memory_wire(&rt, &mut wire);
-    assert_text(
+    assert_so(
         &rt,
-        lines(alloc, wire.lines().as_slice())?.as_slice(),
-        b"one\nthree\n",
+        holds(rt.alloc(), &[2], b"one\nthree\n")?,
+        "a wire in memory",
     );
-    assert_eq!(rt; SureWire.present(b"one"), Ok(()));
-
-    assert!(rt; presents(rt, &[b"one", b""]));
-    assert!(rt; presents(rt, &[b"three"]));
-    assert_text(
+    assert_so(&rt, SureWire.present(b"one").is_ok(), "a sure wire");
+    assert_so(&rt, presents(rt, &[b"one", b""]), "two lines");
+    assert_so(&rt, presents(rt, &[b"three"]), "one more");
+    let written = fs::read(&rt, "var/wire-7.log")?;
+    assert_so(
         &rt,
-        fs::read(&rt, "var/wire-7.log")?.as_slice(),
-        b"one\n\nthree\n",
+        written.as_slice() == b"one\n\nthree\n".as_slice(),
+        "all lines",
     );
     Ok(())
 }
