@@ -7,7 +7,7 @@ use crate::warning::warn;
 use crate::{Files, FilesError};
 use mj_fields::{Bytes, Items, Memory};
 use std::alloc::Global;
-use std::fs::OpenFile;
+use std::fs::{DirEntry, OpenFile};
 use std::io::{ErrorKind, Read};
 use std::marker::Model;
 use std::{fs, io, rt};
@@ -85,15 +85,39 @@ fn file_names<E: rt::Files + AllocGlobal + Eprint + Clone + Drop>(
     let mut names = Vec::new(alloc);
     for entry in fs::read_dir(rt, folder).map_err(|e| said(rt, folder, e))? {
         let entry = entry.map_err(|e| said(rt, folder, e))?;
-        if is_file(rt, entry.path().as_str())? {
-            if names.len() >= MOST_NAMES {
-                return Err(said(rt, folder, io::Error::other("more than 1,000,000 files")));
-            }
-            names.push(String::from_str(alloc, entry.file_name())?)?;
-        }
+        take_entry(alloc, rt, folder, &mut names, &entry)?;
     }
     names.sort()?;
     Ok(names)
+}
+
+/// Adds the name of an entry of the folder, if a file stands there.
+fn take_entry<E: rt::Files + AllocGlobal + Eprint + Clone + Drop>(
+    alloc: Global,
+    rt: &E,
+    folder: &str,
+    names: &mut Vec<String>,
+    entry: &DirEntry<E>,
+) -> io::Result<()> {
+    if is_file(rt, entry.path().as_str())? {
+        add_name(alloc, rt, folder, names, entry.file_name())?;
+    }
+    Ok(())
+}
+
+fn add_name<E: Eprint>(
+    alloc: Global,
+    rt: &E,
+    folder: &str,
+    names: &mut Vec<String>,
+    name: &str,
+) -> io::Result<()> {
+    if names.len() >= MOST_NAMES {
+        let error = io::Error::other("more than 1,000,000 files");
+        return Err(said(rt, folder, error));
+    }
+    names.push(String::from_str(alloc, name)?)?;
+    Ok(())
 }
 
 fn to_items(alloc: Global, names: &[String]) -> Result<Items<Bytes>, Memory>
