@@ -1,14 +1,15 @@
 #!/usr/bin/env python3
 """Compares what the log makes of files with what `tools/journal` reads in them.
 
-Files of random bytes, journals, and journals with a few bytes changed, cut off or put in are opened by the program of
-crates/log_bench. For each, its answer must be that of `tools/journal` for the file before, and the file must then hold what
-docs/FORMAT.md says: the front that ends with the closing gate, a new journal, or, where it is refused, what it held.
+Files of random bytes, journals, and journals with a few bytes changed, cut off or put in are opened and read by the program of
+crates/log_bench. For each, its answer must be that of `tools/journal` for the file before, with all payloads, and the file must
+then hold what docs/FORMAT.md says: the front that ends with the closing gate, a new journal, or, where it is refused, what it held.
 
 The status is 0 where all agree; else the files that don't are named and kept, and it is 1.
 """
 
 import argparse
+import functools
 import importlib.machinery
 import importlib.util
 import io
@@ -37,20 +38,26 @@ def journal_tool():
     return module
 
 
+def sum_of(payload):
+    """The number that the program gives for the bytes of a payload."""
+    return functools.reduce(lambda total, byte: (31 * total + byte) % (1 << 32), payload, 0)
+
+
 def expected(journal, content):
     """What the program must print for a file, and what the file must hold then."""
     if len(content) <= journal.EMPTY:
         return f"0 {len(NEW_JOURNAL)}", NEW_JOURNAL
     if not content.startswith(journal.MAGIC):
         return "NotAJournal", content
-    count = 0
+    payloads = []
     try:
         for place, _, length, _ in journal.frames(io.BytesIO(content), len(content)):
             if length is None:
-                return f"{count} {place + 1}", content[: place + 1]
-            count += 1
+                shown = [f"{len(payload)}:{sum_of(payload)}" for payload in payloads]
+                return " ".join([str(len(payloads)), *shown, str(place + 1)]), content[: place + 1]
+            payloads.append(content[place + 5 : place + 5 + length])
     except journal.Damaged:
-        return f"Damaged {{ number: {count} }}", content
+        return f"Damaged {{ number: {len(payloads)} }}", content
 
 
 # ---- Files
@@ -105,7 +112,7 @@ def disagreeing(program, folder, contents, wanted):
     paths = [folder / str(number) for number in range(len(contents))]
     for path, content in zip(paths, contents):
         path.write_bytes(content)
-    done = subprocess.run([program, "open", *paths], stdout=subprocess.PIPE, check=False)
+    done = subprocess.run([program, "read", *paths], stdout=subprocess.PIPE, check=False)
     says = done.stdout.decode().splitlines()
     if done.returncode != 0 or len(says) != len(paths):
         return [(contents[-1], f"status {done.returncode}, {len(says)} lines for {len(paths)} files")]
@@ -142,7 +149,7 @@ def main():
         for first in range(0, given.files, AT_ONCE):
             contents = [any_file(draw) for _ in range(min(AT_ONCE, given.files - first))]
             wanted = [expected(journal, content) for content in contents]
-            wrong = disagreeing(given.program, Path(folder), contents, wanted)
+            wrong = disagreeing(given.program.resolve(), Path(folder), contents, wanted)
             if wrong:
                 keep(wrong)
                 sys.exit(1)

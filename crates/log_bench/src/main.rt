@@ -3,12 +3,13 @@
 //! - `append FILE LENGTH COUNT GROUP` adds `COUNT` groups of `GROUP` payloads of `LENGTH` bytes, each group at once, and one payload by
 //!   itself where a group is one.
 //! - `open FILE..` opens each log, and prints how many payloads it has and how long its file is then, or why it was refused.
+//! - `read FILE..` does the same, and prints of each payload its length and a number that its bytes give.
 //!
-//! `bench/bench.py` measures both, and `bench/journals.py` compares what `open` prints with `tools/journal`. The status is 0 where all was
-//! done, and else 1.
+//! `bench/bench.py` measures the first two, and `bench/journals.py` compares what `read` prints with `tools/journal`. The status is 0
+//! where all was done, and else 1.
 #![tactic(auto)]
 
-ghost use Rattle.std.specs.Prelude.{◌≡◌, ◌≤◌, length, IfOk, OnOk};
+ghost use Rattle.std.specs.Prelude.{◌≡◌, ◌<◌, ◌≤◌, length, IfOk, OnOk};
 ghost use Rattle.mj_log.specs.FrameLaws.{AllShort};
 ghost use Rattle.mj_log.specs.Log.{texts};
 
@@ -86,11 +87,20 @@ fn group_of(alloc: Global, amount: Amount) -> Result<Vec<Vec<u8>>, AllocError>
     Ok(group)
 }
 
+fn append_one<D: Disk + Drop>(log: &mut Log<D>, payload: &[u8]) -> Result<u64, LogFault>
+    requires { length payload.now ≤ 134217728 }
+{
+    if log.prepare(payload.len()).is_err() {
+        return Err(LogFault::Memory);
+    }
+    log.append(payload)
+}
+
 fn append_each<D: Disk + Drop>(log: &mut Log<D>, payload: &[u8], count: u64) -> Result<(), LogFault>
     requires { length payload.now ≤ 134217728 }
 {
     for _ in 0..count {
-        log.append(payload)?;
+        append_one(log, payload)?;
     }
     Ok(())
 }
@@ -138,21 +148,76 @@ where
     }
 }
 
-/// Opens a log, and prints a line.
-fn show<E: rt::Files + AllocGlobal + Print + Clone + Drop>(rt: &E, path: &str) -> io::Result<()>
+/// A number that tells bytes from others: the number whose digits they are, at base 31, below 2^32.
+fn sum_of(bytes: &[u8]) -> u32 {
+    let mut sum = 0u32;
+    for &byte in bytes {
+        sum = sum.wrapping_mul(31).wrapping_add(u32::from(byte));
+    }
+    sum
+}
+
+fn print_payload<D: Disk + Drop>(rt: &impl Print, log: &mut Log<D>, number: u64) -> io::Result<()>
+    requires { number < length log.old.places }
+    ensures { log.new.places ≡ log.old.places }
+{
+    let len = log.payload_len(number);
+    match log.payload(number) {
+        Ok(payload) => {
+            let sum = sum_of(payload.as_slice());
+            print!(rt; " {len}:{sum}")
+        }
+        Err(fault) => print!(rt; " {len}:{fault:?}"),
+    }
+}
+
+fn print_payloads<D: Disk + Drop>(rt: &impl Print, log: &mut Log<D>) -> io::Result<()> {
+    for number in 0..log.count() {
+        print_payload(rt, log, number)?;
+    }
+    Ok(())
+}
+
+/// Opens a log, and prints a line, with its payloads where that is wanted.
+fn show<E: rt::Files + AllocGlobal + Print + Clone + Drop>(
+    rt: &E,
+    path: &str,
+    payloads: bool,
+) -> io::Result<()>
 where
     E::File: FileExt,
 {
     match open(rt.clone()?, path) {
-        Ok(log) => {
+        Ok(mut log) => {
             let count = log.count();
+            print!(rt; "{count}")?;
+            if payloads {
+                print_payloads(rt, &mut log)?;
+            }
             match log.into_disk().length() {
-                Ok(length) => println!(rt; "{count} {length}"),
-                Err(_) => println!(rt; "{count}"),
+                Ok(length) => println!(rt; " {length}"),
+                Err(_) => println!(rt),
             }
         }
         Err(fault) => println!(rt; "{fault:?}"),
     }
+}
+
+/// Shows each log, and says whether all lines were printed.
+fn show_all<E: rt::Files + AllocGlobal + Print + Clone + Drop>(
+    rt: &E,
+    paths: &[String],
+    payloads: bool,
+) -> bool
+where
+    E::File: FileExt,
+{
+    for path in paths {
+        if show(rt, path.as_str(), payloads).is_err() {
+            return false;
+        }
+    }
+    true
 }
 
 /// Whether the words were understood, and all was done.
@@ -161,14 +226,8 @@ where
     E::File: FileExt,
 {
     match words {
-        [word, paths @ ..] if word.as_str() == "open" => {
-            for path in paths {
-                if show(&rt, path.as_str()).is_err() {
-                    return false;
-                }
-            }
-            true
-        }
+        [word, paths @ ..] if word.as_str() == "open" => show_all(&rt, paths, false),
+        [word, paths @ ..] if word.as_str() == "read" => show_all(&rt, paths, true),
         [word, path, length, count, group] if word.as_str() == "append" => {
             match amount_of(length.as_str(), count.as_str(), group.as_str()) {
                 Some(amount) => append(rt, path.as_str(), amount),
