@@ -3,3 +3,4 @@
 
 #[cfg(test)]
 mod runs;
+pub mod sure;
