@@ -1,5 +1,5 @@
 -- What a log says of its disk.
-use Rattle.std.specs.Prelude.{◌≡◌, ◌⊎◌, ℕ, List, [], ◌∷◌, ◌++◌, map, Option, Some, None, option_map, Vec}
+use Rattle.std.specs.Prelude.{◌≡◌, ◌⊎◌, ℕ, List, [], ◌∷◌, ◌++◌, map, Option, Some, None, Vec}
 use Rattle.std.specs.declared.alloc.Global.{Global}
 use Rattle.mj_disk.specs.Media.{Media, IsImage}
 use Rattle.mj_disk.specs.Moments.{LeavesNow}
@@ -17,10 +17,6 @@ WithOrWithout ps more bytes = ReadsAs ps bytes ⊎ ReadsAs (ps ++ more) bytes
 abbrev pub ReadsAsAt : List Media → List ℕ → Type 0
 ReadsAsAt [] bytes = Unit {0}
 ReadsAsAt (m ∷ past) bytes = (image : List ℕ) × IsImage m image × (payloads bytes ≡ payloads image)
-
--- the payloads with more at their end, where they are told
-abbrev pub grown : Option (List (List ℕ)) → List (List ℕ) → Option (List (List ℕ))
-grown told more = option_map (λ ps. ps ++ more) told
 
 -- the payloads of a slice
 abbrev pub texts : List (Vec ℕ Global) → List (List ℕ)

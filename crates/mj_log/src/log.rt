@@ -73,6 +73,45 @@ impl<D: Disk> Log<D> {
             }
         }
     }
+
+    /// Adds payloads whose frames pass no limit.
+    fn put_all(&mut self, payloads: &[Vec<u8>]) -> Result<u64, LogFault>
+        requires open { self.old.stop ≡ None }
+        requires some { 0 < length payloads.now }
+        requires short { AllShort (texts payloads.now) }
+        requires room { self.old.end + 1 + spread (texts payloads.now) ≤ self.old.limit }
+        ensures added { (ps : List (List ℕ)) → Has D.moments self.old ps → OnOk result (Has D.moments self.new (ps ++ texts payloads.now)) }
+        ensures any_moment { (ps : List (List ℕ)) → Has D.moments self.old ps → LeavesOnly (D.moments self.old.disk) (D.moments self.new.disk) (WithOrWithout ps (texts payloads.now)) }
+        ensures number { IfOk result (λ n. n ≡ length self.old.places) }
+        ensures done { OnOk result (self.new ≡ record self.old { disk = self.new.disk; places = self.old.places ++ gates_of self.old.end (texts payloads.now); end = self.old.end + spread (texts payloads.now); room = self.new.room; slots = self.new.slots }) }
+        ensures fault { IfErr result (λ e. (e ≡ LogFault.Memory) ⊎ (e ≡ LogFault.DiskFault (D.faults self.new.disk))) }
+        ensures same { IsErrOf result LogFault.Memory → self.new ≡ self.old }
+        ensures stops { (n : ℕ) → IsErrOf result (LogFault.DiskFault n) → self.new ≡ record self.old { disk = self.new.disk; stop = Some n; room = self.new.room; slots = self.new.slots } }
+        ensures tells { OnErr result (told D.moments self.new ≡ told D.moments self.old) }
+        ensures cause { IsCounted (D.faults self.old.disk) (D.faults self.new.disk) result }
+    {
+        let Ok(all) = open_frames(self.alloc, payloads) else {
+            return Err(LogFault::Memory);
+        };
+        let Ok(gates) = gates_of(self.alloc, self.end, payloads) else {
+            return Err(LogFault::Memory);
+        };
+        if self.places.reserve(gates.len()).is_err() {
+            return Err(LogFault::Memory);
+        }
+        self.put(&all[1..], &gates)
+    }
+
+    /// The place of the gate behind the payload of this number.
+    fn next_gate(&self, number: u64) -> u64
+        requires { number < length self.now.places }
+        ensures { result ≡ get_or self.now.places (number + 1) self.now.end }
+    {
+        match self.places.get(number as usize + 1) {
+            Some(&gate) => gate,
+            None => self.end,
+        }
+    }
 }
 
 impl<D: Disk + Drop> Log<D> {
@@ -261,46 +300,5 @@ impl<D: Disk + Drop> Log<D> {
         ensures { result ≡ self.disk }
     {
         self.disk
-    }
-}
-
-impl<D: Disk> Log<D> {
-    /// The place of the gate behind the payload of this number.
-    fn next_gate(&self, number: u64) -> u64
-        requires { number < length self.now.places }
-        ensures { result ≡ get_or self.now.places (number + 1) self.now.end }
-    {
-        match self.places.get(number as usize + 1) {
-            Some(&gate) => gate,
-            None => self.end,
-        }
-    }
-
-    /// Adds payloads whose frames pass no limit.
-    fn put_all(&mut self, payloads: &[Vec<u8>]) -> Result<u64, LogFault>
-        requires open { self.old.stop ≡ None }
-        requires some { 0 < length payloads.now }
-        requires short { AllShort (texts payloads.now) }
-        requires room { self.old.end + 1 + spread (texts payloads.now) ≤ self.old.limit }
-        ensures added { (ps : List (List ℕ)) → Has D.moments self.old ps → OnOk result (Has D.moments self.new (ps ++ texts payloads.now)) }
-        ensures any_moment { (ps : List (List ℕ)) → Has D.moments self.old ps → LeavesOnly (D.moments self.old.disk) (D.moments self.new.disk) (WithOrWithout ps (texts payloads.now)) }
-        ensures number { IfOk result (λ n. n ≡ length self.old.places) }
-        ensures done { OnOk result (self.new ≡ record self.old { disk = self.new.disk; places = self.old.places ++ gates_of self.old.end (texts payloads.now); end = self.old.end + spread (texts payloads.now); room = self.new.room; slots = self.new.slots }) }
-        ensures fault { IfErr result (λ e. (e ≡ LogFault.Memory) ⊎ (e ≡ LogFault.DiskFault (D.faults self.new.disk))) }
-        ensures same { IsErrOf result LogFault.Memory → self.new ≡ self.old }
-        ensures stops { (n : ℕ) → IsErrOf result (LogFault.DiskFault n) → self.new ≡ record self.old { disk = self.new.disk; stop = Some n; room = self.new.room; slots = self.new.slots } }
-        ensures tells { OnErr result (told D.moments self.new ≡ told D.moments self.old) }
-        ensures cause { IsCounted (D.faults self.old.disk) (D.faults self.new.disk) result }
-    {
-        let Ok(all) = open_frames(self.alloc, payloads) else {
-            return Err(LogFault::Memory);
-        };
-        let Ok(gates) = gates_of(self.alloc, self.end, payloads) else {
-            return Err(LogFault::Memory);
-        };
-        if self.places.reserve(gates.len()).is_err() {
-            return Err(LogFault::Memory);
-        }
-        self.put(&all[1..], &gates)
     }
 }
