@@ -1,244 +1,275 @@
 //! Configurations with one fault at each place, and pairs of faults whose order decides.
-use crate::texts::{ALL, ERROR, NULL, ROOT, SPOOL, STEP, assert_fault, fault_at, fault_of};
+use crate::texts::{
+    ALL, ERROR, NULL, Place, ROOT, SPOOL, STEP, add, assert_so, fault_at, fault_in, whole,
+};
 use mj_config::{PlanFault, PlanKind};
+use std::alloc::Global;
 use std::process::Abort;
 use std::test::Fail;
 
-/// Files that are refused as a whole, and for which kind.
-const FILES: [(&str, Option<PlanKind>); 17] = [
-    ("", Some(PlanKind::Missing)),
-    ("spool", Some(PlanKind::NotToml)),
-    ("spool = 5", Some(PlanKind::WrongType)),
-    ("[spool]", Some(PlanKind::Missing)),
-    ("[spool]\nhost_name = 5", Some(PlanKind::WrongType)),
-    ("[spool]\nhost_name = \"-\"", Some(PlanKind::BadAddress)),
-    ("[spool]\nhost_name = \"a.test\"", Some(PlanKind::Missing)),
-    (
-        "[spool]\nhost_name = \"a.test\"\npostmaster = [\"p@a.test\"]",
-        Some(PlanKind::WrongType),
-    ),
-    (
-        "[spool]\nhost_name = \"a.test\"\npostmaster = \"p\"\nlocal_hosts = 5",
-        Some(PlanKind::BadAddress),
-    ),
-    (
-        "[spool]\nhost_name = \"a.test\"\npostmaster = \"p@a.test\"\nlocal_hosts = [\"-\", 5]",
-        Some(PlanKind::WrongType),
-    ),
-    (
-        "[spool]\nhost_name = \"a.test\"\npostmaster = \"p@a.test\"\nlocal_hosts = [\"b.test\", \"-\"]",
-        Some(PlanKind::BadAddress),
-    ),
-    (
-        "[spool]\nhost_name = \"a.test\"\npostmaster = \"p@a.test\"\nlocal_hosts = []\nlocal_users = \"ann\"",
-        Some(PlanKind::WrongType),
-    ),
-    (
-        "[spool]\nhost_name = \"a.test\"\npostmaster = \"p@a.test\"\nlocal_hosts = []\nlocal_users = [\"a@b\"]",
-        Some(PlanKind::BadAddress),
-    ),
-    (
-        "[spool]\nhost_name = \"a.test\"\npostmaster = \"p@a.test\"\nlocal_hosts = []\nlocal_users = []\nstart = 2024-01-01T00:00:00Z",
-        Some(PlanKind::WrongType),
-    ),
-    (
-        "[spool]\nhost_name = \"a.test\"\npostmaster = \"p@a.test\"\nlocal_hosts = []\nlocal_users = []\nstart = \"2023-02-29T00:00:00Z\"",
-        Some(PlanKind::BadMoment),
-    ),
-    (
-        "[spool]\nhost_name = \"a.test\"\npostmaster = \"p@a.test\"\nlocal_hosts = []\nlocal_users = []\nstart = \"2101-01-01T00:00:00Z\"",
-        Some(PlanKind::BadMoment),
-    ),
-    (
-        "[spool]\nhost_name = \"a.test\"\npostmaster = \"p@a.test\"\nlocal_hosts = []\nlocal_users = []\nstart = \"2024-02-29T00:00:00Z\"",
-        Some(PlanKind::NoRoot),
-    ),
+/// The places of cases: a whole file, what stands before `[spool]`, behind it, and between it and the processors, a value of
+/// `match`, and the lines behind a step's matcher.
+const FILE: Place = (&[], &[]);
+
+const AT_FRONT: Place = (&[], &[SPOOL]);
+
+const BEHIND_SPOOL: Place = (&[SPOOL], &[]);
+
+const BEFORE_ROOT: Place = (&[SPOOL], &[ROOT, ERROR]);
+
+const AT_MATCH: Place = (&[SPOOL, ROOT, STEP, "match = "], &[NULL, ERROR]);
+
+const BEHIND_MATCH: Place = (&[SPOOL, ROOT, STEP, ALL], &[ERROR]);
+
+/// The fault of a configuration with this case at this place.
+fn fault_of(alloc: Global, (front, back): Place, case: &str) -> Result<Option<PlanFault>, Fail> {
+    let mut text = Vec::new(alloc);
+    add(&mut text, front)?;
+    add(&mut text, &[case])?;
+    add(&mut text, back)?;
+    Ok(fault_in(alloc, &text))
+}
+
+/// Fails where one of these cases has another fault.
+fn assert_all(
+    rt: &(impl Abort + AllocGlobal),
+    place: Place,
+    cases: &[&str],
+    want: Option<PlanFault>,
+) -> Result<(), Fail> {
+    for case in cases {
+        assert_so(rt, fault_of(rt.alloc(), place, case)? == want, case);
+    }
+    Ok(())
+}
+
+/// Files that are refused as a whole, by their fault.
+const FILES_MISSING: [&str; 3] = ["", "[spool]", "[spool]\nhost_name = \"a.test\""];
+
+const FILES_NOT_TOML: [&str; 1] = ["spool"];
+
+const FILES_WRONG_TYPE: [&str; 6] = [
+    "spool = 5",
+    "[spool]\nhost_name = 5",
+    "[spool]\nhost_name = \"a.test\"\npostmaster = [\"p@a.test\"]",
+    "[spool]\nhost_name = \"a.test\"\npostmaster = \"p@a.test\"\nlocal_hosts = [\"-\", 5]",
+    "[spool]\nhost_name = \"a.test\"\npostmaster = \"p@a.test\"\nlocal_hosts = []\nlocal_users = \"ann\"",
+    "[spool]\nhost_name = \"a.test\"\npostmaster = \"p@a.test\"\nlocal_hosts = []\nlocal_users = []\nstart = 2024-01-01T00:00:00Z",
+];
+
+const FILES_BAD_ADDRESS: [&str; 4] = [
+    "[spool]\nhost_name = \"-\"",
+    "[spool]\nhost_name = \"a.test\"\npostmaster = \"p\"\nlocal_hosts = 5",
+    "[spool]\nhost_name = \"a.test\"\npostmaster = \"p@a.test\"\nlocal_hosts = [\"b.test\", \"-\"]",
+    "[spool]\nhost_name = \"a.test\"\npostmaster = \"p@a.test\"\nlocal_hosts = []\nlocal_users = [\"a@b\"]",
+];
+
+const FILES_BAD_MOMENT: [&str; 2] = [
+    "[spool]\nhost_name = \"a.test\"\npostmaster = \"p@a.test\"\nlocal_hosts = []\nlocal_users = []\nstart = \"2023-02-29T00:00:00Z\"",
+    "[spool]\nhost_name = \"a.test\"\npostmaster = \"p@a.test\"\nlocal_hosts = []\nlocal_users = []\nstart = \"2101-01-01T00:00:00Z\"",
+];
+
+const FILES_NO_ROOT: [&str; 1] = [
+    "[spool]\nhost_name = \"a.test\"\npostmaster = \"p@a.test\"\nlocal_hosts = []\nlocal_users = []\nstart = \"2024-02-29T00:00:00Z\"",
 ];
 
 #[test]
 fn the_file_and_its_spool(rt: HostRuntime) -> Result<(), Fail> {
-    for (text, kind) in FILES {
-        assert_fault(&rt, &[text], fault_of(kind, 0, 0), text)?;
-    }
+    assert_all(&rt, FILE, &FILES_MISSING, whole(PlanKind::Missing))?;
+    assert_all(&rt, FILE, &FILES_NOT_TOML, whole(PlanKind::NotToml))?;
+    assert_all(&rt, FILE, &FILES_WRONG_TYPE, whole(PlanKind::WrongType))?;
+    assert_all(&rt, FILE, &FILES_BAD_ADDRESS, whole(PlanKind::BadAddress))?;
+    assert_all(&rt, FILE, &FILES_BAD_MOMENT, whole(PlanKind::BadMoment))?;
+    assert_all(&rt, FILE, &FILES_NO_ROOT, whole(PlanKind::NoRoot))?;
     Ok(())
 }
 
 /// Lines of a table `[spool]` that has the other keys.
-const HOPS: [(&str, Option<PlanKind>); 10] = [
-    ("max_hops = 0\n", Some(PlanKind::BadArgument)),
-    ("max_hops = 1\n", None),
-    ("max_hops = \"1000\"\n", None),
-    ("max_hops = 1_001\n", Some(PlanKind::BadArgument)),
-    ("max_hops = -1\n", Some(PlanKind::BadArgument)),
-    ("max_hops = \"1e2\"\n", Some(PlanKind::BadArgument)),
-    (
-        "max_hops = 9223372036854775807\n",
-        Some(PlanKind::BadArgument),
-    ),
-    ("max_hops = 5.0\n", Some(PlanKind::WrongType)),
-    ("max_hops = true\nrewrite = 5\n", Some(PlanKind::WrongType)),
-    ("rewritten = 5\n", None),
+const HOPS_BAD_ARGUMENT: [&str; 5] = [
+    "max_hops = 0\n",
+    "max_hops = 1_001\n",
+    "max_hops = -1\n",
+    "max_hops = \"1e2\"\n",
+    "max_hops = 9223372036854775807\n",
 ];
+
+const HOPS_TAKEN: [&str; 3] = ["max_hops = 1\n", "max_hops = \"1000\"\n", "rewritten = 5\n"];
+
+const HOPS_WRONG_TYPE: [&str; 2] = ["max_hops = 5.0\n", "max_hops = true\nrewrite = 5\n"];
 
 #[test]
 fn the_limit_of_hops(rt: HostRuntime) -> Result<(), Fail> {
-    for (line, kind) in HOPS {
-        let parts = [SPOOL, line, ROOT, ERROR];
-        assert_fault(&rt, &parts, fault_of(kind, 0, 0), line)?;
-    }
+    assert_all(
+        &rt,
+        BEFORE_ROOT,
+        &HOPS_BAD_ARGUMENT,
+        whole(PlanKind::BadArgument),
+    )?;
+    assert_all(&rt, BEFORE_ROOT, &HOPS_TAKEN, None)?;
+    assert_all(
+        &rt,
+        BEFORE_ROOT,
+        &HOPS_WRONG_TYPE,
+        whole(PlanKind::WrongType),
+    )?;
     Ok(())
 }
 
 /// Rewrite tables.
-const REWRITES: [(&str, Option<PlanKind>); 15] = [
-    ("[rewrite]\n", Some(PlanKind::WrongType)),
-    ("[[rewrite]]\n", Some(PlanKind::Missing)),
-    (
-        "[[rewrite]]\nfrom = \"a@b.test\"\n",
-        Some(PlanKind::Missing),
-    ),
-    (
-        "[[rewrite]]\ndomain = \"b.test\"\n",
-        Some(PlanKind::Missing),
-    ),
-    (
-        "[[rewrite]]\nfrom = \"a@b.test\"\nto = \"c@d.test\"\n",
-        Some(PlanKind::WrongType),
-    ),
-    (
-        "[[rewrite]]\nfrom = \"a\"\nto = [5]\n",
-        Some(PlanKind::WrongType),
-    ),
-    (
-        "[[rewrite]]\nfrom = \"a\"\nto = [\"c@d.test\"]\n",
-        Some(PlanKind::BadAddress),
-    ),
-    (
-        "[[rewrite]]\nfrom = \"a@b.test\"\nto = [\"c\"]\n",
-        Some(PlanKind::BadAddress),
-    ),
-    (
-        "[[rewrite]]\nfrom = \"a@b.test\"\nto = []\n",
-        Some(PlanKind::BadArgument),
-    ),
-    (
-        "[[rewrite]]\nfrom = \"a@b.test\"\nto = [\"c@d.test\"]\nerror = 5\n",
-        None,
-    ),
-    (
-        "[[rewrite]]\nfrom = \"a@b.test\"\nerror = \"\"\n",
-        Some(PlanKind::BadArgument),
-    ),
-    (
-        "[[rewrite]]\nfrom = 5\nerror = \"\"\n",
-        Some(PlanKind::WrongType),
-    ),
-    ("[[rewrite]]\nfrom = \"a@b.test\"\nerror = \"gone\"\n", None),
-    (
-        "[[rewrite]]\nfrom = \"a@b.test\"\ndomain = \"b.test\"\nto_domain = \"d.test\"\n",
-        None,
-    ),
-    (
-        "[[rewrite]]\ndomain = \"b.test\"\nto_domain = \"-\"\n",
-        Some(PlanKind::BadAddress),
-    ),
+const REWRITES_WRONG_TYPE: [&str; 4] = [
+    "[rewrite]\n",
+    "[[rewrite]]\nfrom = \"a@b.test\"\nto = \"c@d.test\"\n",
+    "[[rewrite]]\nfrom = \"a\"\nto = [5]\n",
+    "[[rewrite]]\nfrom = 5\nerror = \"\"\n",
+];
+
+const REWRITES_MISSING: [&str; 3] = [
+    "[[rewrite]]\n",
+    "[[rewrite]]\nfrom = \"a@b.test\"\n",
+    "[[rewrite]]\ndomain = \"b.test\"\n",
+];
+
+const REWRITES_BAD_ADDRESS: [&str; 3] = [
+    "[[rewrite]]\nfrom = \"a\"\nto = [\"c@d.test\"]\n",
+    "[[rewrite]]\nfrom = \"a@b.test\"\nto = [\"c\"]\n",
+    "[[rewrite]]\ndomain = \"b.test\"\nto_domain = \"-\"\n",
+];
+
+const REWRITES_BAD_ARGUMENT: [&str; 2] = [
+    "[[rewrite]]\nfrom = \"a@b.test\"\nto = []\n",
+    "[[rewrite]]\nfrom = \"a@b.test\"\nerror = \"\"\n",
+];
+
+const REWRITES_TAKEN: [&str; 3] = [
+    "[[rewrite]]\nfrom = \"a@b.test\"\nto = [\"c@d.test\"]\nerror = 5\n",
+    "[[rewrite]]\nfrom = \"a@b.test\"\nerror = \"gone\"\n",
+    "[[rewrite]]\nfrom = \"a@b.test\"\ndomain = \"b.test\"\nto_domain = \"d.test\"\n",
 ];
 
 #[test]
 fn rows_of_the_rewrite_table(rt: HostRuntime) -> Result<(), Fail> {
-    for (table, kind) in REWRITES {
-        let parts = [SPOOL, table, ROOT, ERROR];
-        assert_fault(&rt, &parts, fault_of(kind, 0, 0), table)?;
-    }
+    assert_all(
+        &rt,
+        BEFORE_ROOT,
+        &REWRITES_WRONG_TYPE,
+        whole(PlanKind::WrongType),
+    )?;
+    assert_all(
+        &rt,
+        BEFORE_ROOT,
+        &REWRITES_MISSING,
+        whole(PlanKind::Missing),
+    )?;
+    assert_all(
+        &rt,
+        BEFORE_ROOT,
+        &REWRITES_BAD_ADDRESS,
+        whole(PlanKind::BadAddress),
+    )?;
+    assert_all(
+        &rt,
+        BEFORE_ROOT,
+        &REWRITES_BAD_ARGUMENT,
+        whole(PlanKind::BadArgument),
+    )?;
+    assert_all(&rt, BEFORE_ROOT, &REWRITES_TAKEN, None)?;
     Ok(())
 }
 
-/// Tables `[[processor]]`, and the fault with its processor and its step.
-const PROCESSORS: [(&str, Option<(PlanKind, u32, u32)>); 15] = [
-    ("processor = 5\n", Some((PlanKind::WrongType, 0, 0))),
-    ("processor = [5]\n", Some((PlanKind::WrongType, 0, 0))),
-    ("[[processor]]\n", Some((PlanKind::Missing, 1, 0))),
-    (
-        "[[processor]]\nname = 5\n",
-        Some((PlanKind::WrongType, 1, 0)),
-    ),
-    (
-        "[[processor]]\nname = \"a b\"\n",
-        Some((PlanKind::BadArgument, 1, 0)),
-    ),
-    (
-        "[[processor]]\nname = \"ghost\"\n",
-        Some((PlanKind::ReservedState, 1, 0)),
-    ),
-    (
-        "[[processor]]\nname = \"matchall\"\n",
-        Some((PlanKind::ReservedState, 1, 0)),
-    ),
-    (
-        "[[processor]]\nname = \"Ghost\"\n",
-        Some((PlanKind::NoRoot, 0, 0)),
-    ),
-    (
-        "[[processor]]\nname = \"root\"\n[[processor]]\nname = \"root\"\nstep = 5\n",
-        Some((PlanKind::Twice, 2, 0)),
-    ),
-    (
-        "[[processor]]\nname = \"root\"\nstep = 5\n[[processor]]\nname = \"root\"\n",
-        Some((PlanKind::WrongType, 1, 0)),
-    ),
-    (
-        "[[processor]]\nname = \"root\"\nstep = [5]\n",
-        Some((PlanKind::WrongType, 1, 0)),
-    ),
-    (
-        "[[processor]]\nname = \"root\"\n[[processor.step]]\n",
-        Some((PlanKind::NoError, 0, 0)),
-    ),
-    (
-        "[[processor]]\nname = \"error\"\n",
-        Some((PlanKind::NoRoot, 0, 0)),
-    ),
-    (
-        "[[processor]]\nname = \"error\"\nstep = []\n[[processor]]\nname = \"root\"\n",
-        None,
-    ),
-    (
-        "[[processor]]\nname = \"root\"\n[[processor]]\nname = \"error\"\n[[processor.step]]\n",
-        Some((PlanKind::Missing, 2, 1)),
-    ),
+/// Tables `[[processor]]`, by their fault; a key of the document stands in front of `[spool]`.
+const PROCESSORS_WRONG_TYPE: [&str; 2] = ["processor = 5\n", "processor = [5]\n"];
+
+const PROCESSORS_MISSING: [&str; 1] = ["[[processor]]\n"];
+
+const PROCESSORS_WRONG_TYPE_IN_ONE: [&str; 3] = [
+    "[[processor]]\nname = 5\n",
+    "[[processor]]\nname = \"root\"\nstep = 5\n[[processor]]\nname = \"root\"\n",
+    "[[processor]]\nname = \"root\"\nstep = [5]\n",
 ];
 
-/// Fails where a configuration with these tables has another fault. A key of the document stands in front of `[spool]`.
-fn assert_processors(
-    rt: &(impl Abort + AllocGlobal),
-    tables: &str,
-    want: Option<PlanFault>,
-) -> Result<(), Fail> {
-    if tables.starts_with("processor") {
-        assert_fault(rt, &[tables, SPOOL], want, tables)
-    } else {
-        assert_fault(rt, &[SPOOL, tables], want, tables)
-    }
-}
+const PROCESSORS_BAD_ARGUMENT: [&str; 1] = ["[[processor]]\nname = \"a b\"\n"];
+
+const PROCESSORS_RESERVED_STATE: [&str; 2] = [
+    "[[processor]]\nname = \"ghost\"\n",
+    "[[processor]]\nname = \"matchall\"\n",
+];
+
+const PROCESSORS_NO_ROOT: [&str; 2] = [
+    "[[processor]]\nname = \"Ghost\"\n",
+    "[[processor]]\nname = \"error\"\n",
+];
+
+const PROCESSORS_TWICE: [&str; 1] = [
+    "[[processor]]\nname = \"root\"\n[[processor]]\nname = \"root\"\nstep = 5\n",
+];
+
+const PROCESSORS_NO_ERROR: [&str; 1] = ["[[processor]]\nname = \"root\"\n[[processor.step]]\n"];
+
+const PROCESSORS_TAKEN: [&str; 1] = [
+    "[[processor]]\nname = \"error\"\nstep = []\n[[processor]]\nname = \"root\"\n",
+];
+
+const PROCESSORS_MISSING_IN_STEP: [&str; 1] = [
+    "[[processor]]\nname = \"root\"\n[[processor]]\nname = \"error\"\n[[processor.step]]\n",
+];
 
 #[test]
 fn names_of_processors(rt: HostRuntime) -> Result<(), Fail> {
-    for (tables, at) in PROCESSORS {
-        assert_processors(&rt, tables, fault_at(at))?;
-    }
-    Ok(())
-}
-
-/// Fails where a step with one of these values of `match` has another fault.
-fn assert_matchers(
-    rt: &(impl Abort + AllocGlobal),
-    matchers: &[&str],
-    kind: Option<PlanKind>,
-) -> Result<(), Fail> {
-    for matcher in matchers {
-        let parts = [SPOOL, ROOT, STEP, "match = ", matcher, NULL, ERROR];
-        assert_fault(rt, &parts, fault_of(kind, 1, 1), matcher)?;
-    }
+    assert_all(
+        &rt,
+        AT_FRONT,
+        &PROCESSORS_WRONG_TYPE,
+        whole(PlanKind::WrongType),
+    )?;
+    assert_all(
+        &rt,
+        BEHIND_SPOOL,
+        &PROCESSORS_MISSING,
+        fault_at(PlanKind::Missing, 1, 0),
+    )?;
+    assert_all(
+        &rt,
+        BEHIND_SPOOL,
+        &PROCESSORS_WRONG_TYPE_IN_ONE,
+        fault_at(PlanKind::WrongType, 1, 0),
+    )?;
+    assert_all(
+        &rt,
+        BEHIND_SPOOL,
+        &PROCESSORS_BAD_ARGUMENT,
+        fault_at(PlanKind::BadArgument, 1, 0),
+    )?;
+    assert_all(
+        &rt,
+        BEHIND_SPOOL,
+        &PROCESSORS_RESERVED_STATE,
+        fault_at(PlanKind::ReservedState, 1, 0),
+    )?;
+    assert_all(
+        &rt,
+        BEHIND_SPOOL,
+        &PROCESSORS_NO_ROOT,
+        whole(PlanKind::NoRoot),
+    )?;
+    assert_all(
+        &rt,
+        BEHIND_SPOOL,
+        &PROCESSORS_TWICE,
+        fault_at(PlanKind::Twice, 2, 0),
+    )?;
+    assert_all(
+        &rt,
+        BEHIND_SPOOL,
+        &PROCESSORS_NO_ERROR,
+        whole(PlanKind::NoError),
+    )?;
+    assert_all(&rt, BEHIND_SPOOL, &PROCESSORS_TAKEN, None)?;
+    assert_all(
+        &rt,
+        BEHIND_SPOOL,
+        &PROCESSORS_MISSING_IN_STEP,
+        fault_at(PlanKind::Missing, 2, 1),
+    )?;
     Ok(())
 }
 
@@ -326,28 +357,31 @@ const MATCHERS_BAD_ADDRESS: [&str; 3] = [
 
 #[test]
 fn matchers(rt: HostRuntime) -> Result<(), Fail> {
-    assert_matchers(&rt, &MATCHERS_TAKEN, None)?;
-    assert_matchers(&rt, &MATCHERS_BAD_ARGUMENT, Some(PlanKind::BadArgument))?;
-    assert_matchers(
+    assert_all(&rt, AT_MATCH, &MATCHERS_TAKEN, None)?;
+    assert_all(
         &rt,
-        &MATCHERS_UNKNOWN_MATCHER,
-        Some(PlanKind::UnknownMatcher),
+        AT_MATCH,
+        &MATCHERS_BAD_ARGUMENT,
+        fault_at(PlanKind::BadArgument, 1, 1),
     )?;
-    assert_matchers(&rt, &MATCHERS_WRONG_TYPE, Some(PlanKind::WrongType))?;
-    assert_matchers(&rt, &MATCHERS_BAD_ADDRESS, Some(PlanKind::BadAddress))?;
-    Ok(())
-}
-
-/// Fails where a step with one of these lines behind its matcher has another fault.
-fn assert_lines(
-    rt: &(impl Abort + AllocGlobal),
-    classes: &[&str],
-    kind: Option<PlanKind>,
-) -> Result<(), Fail> {
-    for lines in classes {
-        let parts = [SPOOL, ROOT, STEP, ALL, lines, ERROR];
-        assert_fault(rt, &parts, fault_of(kind, 1, 1), lines)?;
-    }
+    assert_all(
+        &rt,
+        AT_MATCH,
+        &MATCHERS_UNKNOWN_MATCHER,
+        fault_at(PlanKind::UnknownMatcher, 1, 1),
+    )?;
+    assert_all(
+        &rt,
+        AT_MATCH,
+        &MATCHERS_WRONG_TYPE,
+        fault_at(PlanKind::WrongType, 1, 1),
+    )?;
+    assert_all(
+        &rt,
+        AT_MATCH,
+        &MATCHERS_BAD_ADDRESS,
+        fault_at(PlanKind::BadAddress, 1, 1),
+    )?;
     Ok(())
 }
 
@@ -430,33 +464,68 @@ const LINES_BAD_ADDRESS: [&str; 2] = [
 
 #[test]
 fn classes_and_parameters(rt: HostRuntime) -> Result<(), Fail> {
-    assert_lines(&rt, &LINES_MISSING, Some(PlanKind::Missing))?;
-    assert_lines(&rt, &LINES_WRONG_TYPE, Some(PlanKind::WrongType))?;
-    assert_lines(&rt, &LINES_UNKNOWN_CLASS, Some(PlanKind::UnknownClass))?;
-    assert_lines(&rt, &LINES_TAKEN, None)?;
-    assert_lines(
+    assert_all(
         &rt,
-        &LINES_UNKNOWN_PROCESSOR,
-        Some(PlanKind::UnknownProcessor),
+        BEHIND_MATCH,
+        &LINES_MISSING,
+        fault_at(PlanKind::Missing, 1, 1),
     )?;
-    assert_lines(&rt, &LINES_BAD_ARGUMENT, Some(PlanKind::BadArgument))?;
-    assert_lines(&rt, &LINES_BAD_ADDRESS, Some(PlanKind::BadAddress))?;
+    assert_all(
+        &rt,
+        BEHIND_MATCH,
+        &LINES_WRONG_TYPE,
+        fault_at(PlanKind::WrongType, 1, 1),
+    )?;
+    assert_all(
+        &rt,
+        BEHIND_MATCH,
+        &LINES_UNKNOWN_CLASS,
+        fault_at(PlanKind::UnknownClass, 1, 1),
+    )?;
+    assert_all(&rt, BEHIND_MATCH, &LINES_TAKEN, None)?;
+    assert_all(
+        &rt,
+        BEHIND_MATCH,
+        &LINES_UNKNOWN_PROCESSOR,
+        fault_at(PlanKind::UnknownProcessor, 1, 1),
+    )?;
+    assert_all(
+        &rt,
+        BEHIND_MATCH,
+        &LINES_BAD_ARGUMENT,
+        fault_at(PlanKind::BadArgument, 1, 1),
+    )?;
+    assert_all(
+        &rt,
+        BEHIND_MATCH,
+        &LINES_BAD_ADDRESS,
+        fault_at(PlanKind::BadAddress, 1, 1),
+    )?;
     Ok(())
 }
 
+/// Remote deliveries of the names `outgoing`, which is that of one without a name, and `Outgoing`.
+const BEHIND_DELIVERIES: Place = (
+    &[
+        SPOOL,
+        ROOT,
+        STEP,
+        ALL,
+        "class = \"RemoteDelivery\"\n",
+        ERROR,
+        STEP,
+        ALL,
+        "class = \"RemoteDelivery\"\noutgoing = \"Outgoing\"\n",
+    ],
+    &[],
+);
+
+const OUTGOING: &str =
+    "[[processor.step]]\nmatch = \"All\"\nclass = \"RemoteDelivery\"\noutgoing = \"outgoing\"\ndelayTime = 5\n";
+
 #[test]
 fn names_of_remote_deliveries(rt: HostRuntime) -> Result<(), Fail> {
-    let first = "match = \"All\"\nclass = \"RemoteDelivery\"\n";
-    let named =
-        "match = \"All\"\nclass = \"RemoteDelivery\"\noutgoing = \"outgoing\"\ndelayTime = 5\n";
-    let other = "match = \"All\"\nclass = \"RemoteDelivery\"\noutgoing = \"Outgoing\"\n";
-    let twice = [SPOOL, ROOT, STEP, first, ERROR, STEP, other, STEP, named];
-    assert_fault(
-        &rt,
-        &twice,
-        fault_of(Some(PlanKind::Twice), 2, 2),
-        "the same name",
-    )?;
-    let differ = [SPOOL, ROOT, STEP, first, ERROR, STEP, other];
-    assert_fault(&rt, &differ, None, "other names")
+    let twice = fault_at(PlanKind::Twice, 2, 2);
+    assert_all(&rt, BEHIND_DELIVERIES, &[OUTGOING], twice)?;
+    assert_all(&rt, BEHIND_DELIVERIES, &[""], None)
 }

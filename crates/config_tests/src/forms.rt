@@ -1,4 +1,5 @@
 //! Forms of texts at their limits.
+use crate::texts::assert_so;
 use mj_plan::{
     is_attribute_name, is_attribute_value, is_line, is_processor_name, is_reply_code, is_repository,
 };
@@ -49,25 +50,37 @@ const TEXTS: [(&str, [bool; 6]); 11] = [
 #[test]
 fn forms_of_texts(rt: HostRuntime) {
     for (text, want) in TEXTS {
-        assert!(rt; forms_of(text.as_bytes()) == want, "at {text:?}");
+        assert_so(&rt, forms_of(text.as_bytes()) == want, text);
     }
 }
 
-const LENGTHS: [(usize, [bool; 6]); 8] = [
-    (64, [true, true, true, true, true, false]),
-    (65, [false, true, true, true, true, false]),
-    (255, [false, true, true, true, true, false]),
-    (256, [false, true, false, true, false, false]),
-    (512, [false, true, false, true, false, false]),
-    (513, [false, false, false, true, false, false]),
-    (4_096, [false, false, false, true, false, false]),
-    (4_097, [false, false, false, false, false, false]),
+const LENGTHS: [(&str, usize, [bool; 6]); 8] = [
+    ("64 letters", 64, [true, true, true, true, true, false]),
+    ("65 letters", 65, [false, true, true, true, true, false]),
+    ("255 letters", 255, [false, true, true, true, true, false]),
+    ("256 letters", 256, [false, true, false, true, false, false]),
+    ("512 letters", 512, [false, true, false, true, false, false]),
+    (
+        "513 letters",
+        513,
+        [false, false, false, true, false, false],
+    ),
+    (
+        "4,096 letters",
+        4_096,
+        [false, false, false, true, false, false],
+    ),
+    (
+        "4,097 letters",
+        4_097,
+        [false, false, false, false, false, false],
+    ),
 ];
 
 #[test]
 fn lengths_of_texts(rt: HostRuntime) -> Result<(), Fail> {
-    for (count, want) in LENGTHS {
-        assert!(rt; forms_of_length(rt.alloc(), count)? == want, "at {count}");
+    for (case, count, want) in LENGTHS {
+        assert_so(&rt, forms_of_length(rt.alloc(), count)? == want, case);
     }
     Ok(())
 }

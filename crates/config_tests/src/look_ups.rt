@@ -1,5 +1,5 @@
 //! Look-ups in a plan.
-use crate::texts::{ALL, ERROR, ROOT, SPOOL, STEP, joined};
+use crate::texts::{ALL, ERROR, ROOT, SPOOL, STEP, assert_so, joined};
 use mj_config::read_plan;
 use mj_plan::Plan;
 use std::alloc::Global;
@@ -47,7 +47,7 @@ fn look_ups(rt: HostRuntime) -> Result<(), Fail> {
             finds(&plan, name.as_bytes()),
             retries(&plan, name.as_bytes()),
         );
-        assert!(rt; found == want, "at {name:?}");
+        assert_so(&rt, found == want, name);
     }
     Ok(())
 }

@@ -20,6 +20,9 @@ pub(crate) const NULL: &str = "\nclass = \"Null\"\n";
 
 pub(crate) const ALL: &str = "match = \"All\"\n";
 
+/// What stands in front of a case, and what stands behind it.
+pub(crate) type Place = (&'static [&'static str], &'static [&'static str]);
+
 /// Adds these parts to a configuration.
 pub(crate) fn add(text: &mut Vec<u8>, parts: &[&str]) -> Result<(), Fail> {
     for part in parts {
@@ -40,9 +43,8 @@ pub(crate) fn fault_in(alloc: Global, text: &[u8]) -> Option<PlanFault> {
     read_plan(alloc, text).err()
 }
 
-/// The fault of this kind in this step of this processor, if there is one.
-pub(crate) fn fault_at(at: Option<(PlanKind, u32, u32)>) -> Option<PlanFault> {
-    let (kind, processor, step) = at?;
+/// The fault of this kind in this step of this processor.
+pub(crate) fn fault_at(kind: PlanKind, processor: u32, step: u32) -> Option<PlanFault> {
     Some(PlanFault::Refused {
         kind,
         processor,
@@ -50,22 +52,12 @@ pub(crate) fn fault_at(at: Option<(PlanKind, u32, u32)>) -> Option<PlanFault> {
     })
 }
 
-/// The same of a kind that is only looked for in this step of this processor.
-pub(crate) fn fault_of(kind: Option<PlanKind>, processor: u32, step: u32) -> Option<PlanFault> {
-    match kind {
-        Some(kind) => fault_at(Some((kind, processor, step))),
-        None => None,
-    }
+/// The fault of this kind of the configuration as a whole.
+pub(crate) fn whole(kind: PlanKind) -> Option<PlanFault> {
+    fault_at(kind, 0, 0)
 }
 
-/// Fails where a configuration of these parts has another fault. The case is what the parts have that is looked at.
-pub(crate) fn assert_fault(
-    rt: &(impl Abort + AllocGlobal),
-    parts: &[&str],
-    want: Option<PlanFault>,
-    case: &str,
-) -> Result<(), Fail> {
-    let found = fault_in(rt.alloc(), &joined(rt.alloc(), parts)?);
-    assert!(rt; found == want, "at {case:?}");
-    Ok(())
+/// Fails where it isn't so. The case is what is looked at.
+pub(crate) fn assert_so(rt: &impl Abort, is_so: bool, case: &str) {
+    assert!(rt; is_so, "at {case:?}");
 }

@@ -1,5 +1,5 @@
 //! Domains, addresses and lists of recipients, at their limits.
-use crate::texts::{assert_so, stretched};
+use crate::texts::{Copied, assert_so, repeated};
 use mj_address::{Address, AddressFault, Domain, Recipients};
 use std::alloc::{AllocError, Global};
 use std::process::Abort;
@@ -62,103 +62,54 @@ fn reads_domains(rt: HostRuntime) {
     }
 }
 
-/// As many bytes, in labels of 63 bytes, of which the last may be shorter.
-fn labels(alloc: Global, length: usize) -> Result<Vec<u8>, AllocError> {
-    let mut text = Vec::new(alloc);
-    for place in 0..length {
-        text.push(if place % 64 == 63 { b'.' } else { b'd' })?;
-    }
-    Ok(text)
-}
+/// A label of 63 bytes, and the dot behind it.
+const LABEL: &str = "ddddddddddddddddddddddddddddddddddddddddddddddddddddddddddddddd.";
 
-/// As many of the byte, and the rest.
-fn led_by(alloc: Global, count: usize, byte: u8, rest: &str) -> Result<Vec<u8>, AllocError> {
-    let mut text = stretched(alloc, b"", byte, count)?;
-    text.extend_from_slice(rest.as_bytes())?;
-    Ok(text)
-}
+/// Long domains, and their faults.
+const LONG_DOMAINS: [(Copied, Option<AddressFault>); 5] = [
+    (("d", 63, ".x"), None),
+    (("d", 64, ".x"), Some(AddressFault::BadDomain)),
+    (("-", 256, ""), Some(AddressFault::DomainTooLong)),
+    (
+        (
+            LABEL,
+            3,
+            "ddddddddddddddddddddddddddddddddddddddddddddddddddddddddddddddd",
+        ),
+        None,
+    ),
+    ((LABEL, 4, ""), Some(AddressFault::DomainTooLong)),
+];
 
-/// The fault of the domain of so many bytes in labels.
-fn fault_of_labels(alloc: Global, length: usize) -> Result<Option<AddressFault>, AllocError> {
-    Ok(Domain::read(alloc, &labels(alloc, length)?).err())
-}
-
-/// The fault of the domain of so many of the byte and the rest.
-fn fault_of_domain(
-    alloc: Global,
-    count: usize,
-    byte: u8,
-    rest: &str,
-) -> Result<Option<AddressFault>, AllocError> {
-    Ok(Domain::read(alloc, &led_by(alloc, count, byte, rest)?).err())
-}
-
-/// The fault of such an address.
-fn fault_of_address(
-    alloc: Global,
-    count: usize,
-    byte: u8,
-    rest: &str,
-) -> Result<Option<AddressFault>, AllocError> {
-    Ok(Address::read(alloc, &led_by(alloc, count, byte, rest)?).err())
+fn fault_of_domain(alloc: Global, text: Copied) -> Result<Option<AddressFault>, AllocError> {
+    Ok(Domain::read(alloc, &repeated(alloc, text)?).err())
 }
 
 #[test]
 fn reads_long_domains(rt: HostRuntime) -> Result<(), Fail> {
-    let alloc = rt.alloc();
-    let too_long = Some(AddressFault::DomainTooLong);
-    assert_so(
-        &rt,
-        fault_of_domain(alloc, 63, b'd', ".x")?.is_none(),
-        "a label of 63",
-    );
-    assert_so(
-        &rt,
-        fault_of_domain(alloc, 64, b'd', ".x")? == Some(AddressFault::BadDomain),
-        "a label of 64",
-    );
-    assert_so(
-        &rt,
-        fault_of_domain(alloc, 256, b'-', "")? == too_long,
-        "256 hyphens",
-    );
-    assert_so(
-        &rt,
-        fault_of_labels(alloc, 255)?.is_none(),
-        "a domain of 255",
-    );
-    assert_so(
-        &rt,
-        fault_of_labels(alloc, 256)? == too_long,
-        "a domain of 256",
-    );
+    for (text, fault) in LONG_DOMAINS {
+        assert_so(&rt, fault_of_domain(rt.alloc(), text)? == fault, text.0);
+    }
     Ok(())
+}
+
+/// Addresses with long local parts, and their faults.
+const LONG_ADDRESSES: [(Copied, Option<AddressFault>); 4] = [
+    (("a", 64, "@x.test"), None),
+    (("a", 65, "@x.test"), Some(AddressFault::LocalTooLong)),
+    (("@", 65, ""), Some(AddressFault::BadLocal)),
+    (("@", 66, ""), Some(AddressFault::LocalTooLong)),
+];
+
+fn fault_of_address(alloc: Global, text: Copied) -> Result<Option<AddressFault>, AllocError> {
+    Ok(Address::read(alloc, &repeated(alloc, text)?).err())
 }
 
 #[test]
 fn reads_long_local_parts(rt: HostRuntime) -> Result<(), Fail> {
-    let alloc = rt.alloc();
-    let too_long = Some(AddressFault::LocalTooLong);
-    assert_so(
-        &rt,
-        fault_of_address(alloc, 64, b'a', "@x.test")?.is_none(),
-        "a local part of 64",
-    );
-    assert_so(
-        &rt,
-        fault_of_address(alloc, 65, b'a', "@x.test")? == too_long,
-        "a local part of 65",
-    );
-    assert_so(
-        &rt,
-        fault_of_address(alloc, 65, b'@', "")? == Some(AddressFault::BadLocal),
-        "65 signs @",
-    );
-    assert_so(
-        &rt,
-        fault_of_address(alloc, 66, b'@', "")? == too_long,
-        "66 signs @",
-    );
+    for (text, fault) in LONG_ADDRESSES {
+        assert_so(&rt, fault_of_address(rt.alloc(), text)? == fault, text.0);
+    }
     Ok(())
 }
 
@@ -236,34 +187,26 @@ fn are_same_domains(alloc: Global, text: &str, other: &str) -> Result<bool, Fail
     Ok(domain.same(&Domain::read(alloc, other.as_bytes())?))
 }
 
-/// Addresses that are others than `Ann^@Example.org`. `^` and `~` differ by the bit of case, and are no letters.
-const OTHERS: [&str; 4] = [
-    "ann~@example.org",
-    "ann^^@example.org",
-    "ann^@example.net",
-    "ann^@example.or",
+/// Addresses, and whether each is the same as `Ann^@Example.org`. `^` and `~` differ by the bit of case, and are no letters.
+const COMPARED: [(&str, bool); 5] = [
+    ("ann^@example.ORG", true),
+    ("ann~@example.org", false),
+    ("ann^^@example.org", false),
+    ("ann^@example.net", false),
+    ("ann^@example.or", false),
 ];
 
 #[test]
 fn compares_without_case(rt: HostRuntime) -> Result<(), Fail> {
-    let alloc = rt.alloc();
-    assert_so(
-        &rt,
-        compared(alloc, "Ann^@Example.org", "ann^@example.ORG")? == [true, true],
-        "another case",
-    );
-    for text in OTHERS {
+    for (text, same) in COMPARED {
         assert_so(
             &rt,
-            compared(alloc, "Ann^@Example.org", text)? == [false, false],
+            compared(rt.alloc(), "Ann^@Example.org", text)? == [same, same],
             text,
         );
     }
-    assert_so(
-        &rt,
-        are_same_domains(alloc, "Example.org", "EXAMPLE.ORG")?,
-        "domains in another case",
-    );
+    let are_same = are_same_domains(rt.alloc(), "Example.org", "EXAMPLE.ORG")?;
+    assert_so(&rt, are_same, "domains in another case");
     Ok(())
 }
 
@@ -314,19 +257,18 @@ fn contains(alloc: Global, recipients: &Recipients, text: &str) -> Result<bool, 
     Ok(recipients.contains(&Address::read(alloc, text.as_bytes())?))
 }
 
+/// Whether Bob is found in another case, and Cara isn't.
+fn finds_bob(alloc: Global, recipients: &Recipients) -> Result<bool, Fail> {
+    Ok(
+        contains(alloc, recipients, "BOB@example.net")?
+            && !contains(alloc, recipients, "cara@example.net")?,
+    )
+}
+
 #[test]
 fn finds_recipients(rt: HostRuntime) -> Result<(), Fail> {
-    let recipients = ann_and_bob(rt.alloc())?;
-    assert_so(
-        &rt,
-        contains(rt.alloc(), &recipients, "BOB@example.net")?,
-        "Bob in another case",
-    );
-    assert_so(
-        &rt,
-        !contains(rt.alloc(), &recipients, "cara@example.net")?,
-        "Cara",
-    );
+    let is_found = finds_bob(rt.alloc(), &ann_and_bob(rt.alloc())?)?;
+    assert_so(&rt, is_found, "Bob and Cara");
     Ok(())
 }
 
@@ -336,13 +278,19 @@ fn add_number(alloc: Global, recipients: &mut Recipients, number: u32) -> Result
     add(alloc, recipients, text.as_str())
 }
 
+/// Adds 500 recipients twice, and answers whether each was new the first time alone.
+fn adds_each_once(alloc: Global, recipients: &mut Recipients) -> Result<bool, Fail> {
+    let mut all = true;
+    for number in 0..1000u32 {
+        all &= add_number(alloc, recipients, number % 500)? == (number < 500);
+    }
+    Ok(all)
+}
+
 #[test]
 fn takes_many_recipients(rt: HostRuntime) -> Result<(), Fail> {
     let mut recipients = Recipients::new(rt.alloc());
-    for number in 0..1000u32 {
-        let is_new = add_number(rt.alloc(), &mut recipients, number % 500)?;
-        assert_so(&rt, is_new == (number < 500), "a number twice");
-    }
-    assert_eq!(rt; recipients.len(), 500);
+    assert_so(&rt, adds_each_once(rt.alloc(), &mut recipients)?, "each");
+    assert_so(&rt, recipients.len() == 500, "all");
     Ok(())
 }

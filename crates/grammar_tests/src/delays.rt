@@ -61,28 +61,24 @@ fn lists_without_a_text(alloc: Global, max_retries: u32, delays: &[u64]) -> Resu
     Ok(has(&schedule, delays) && has(&copy, delays))
 }
 
+/// The greatest number of retries, and the delays without a text.
+const WITHOUT_A_TEXT: [(&str, u32, &[u64]); 3] = [
+    ("five retries", 5, &[HOURS; 5]),
+    ("no retry", 0, &[HOURS]),
+    ("100 retries", 100, &[HOURS; 100]),
+];
+
 #[test]
 fn delays_without_a_text(rt: HostRuntime) -> Result<(), Fail> {
-    assert_so(
-        &rt,
-        lists_without_a_text(rt.alloc(), 5, &[HOURS; 5])?,
-        "five retries",
-    );
-    assert_so(
-        &rt,
-        lists_without_a_text(rt.alloc(), 0, &[HOURS])?,
-        "no retry",
-    );
-    assert_so(
-        &rt,
-        lists_without_a_text(rt.alloc(), 100, &[HOURS; 100])?,
-        "100 retries",
-    );
-    assert_so(
-        &rt,
-        Schedule::read(rt.alloc(), None, 101).err() == Some(ScheduleFault::TooMany),
-        "101 retries",
-    );
+    for (case, max_retries, delays) in WITHOUT_A_TEXT {
+        assert_so(
+            &rt,
+            lists_without_a_text(rt.alloc(), max_retries, delays)?,
+            case,
+        );
+    }
+    let fault = Schedule::read(rt.alloc(), None, 101).err();
+    assert_so(&rt, fault == Some(ScheduleFault::TooMany), "101 retries");
     Ok(())
 }
 

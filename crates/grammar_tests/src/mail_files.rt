@@ -6,9 +6,10 @@ use std::test::Fail;
 
 /// Whether the mail of this file is written so.
 fn is_written_as(alloc: Global, text: &[u8], want: &[u8]) -> Result<bool, Fail> {
-    let mail = read_mail_file(alloc, text)?;
-    let written = write_mail_file(alloc, &mail)?;
-    Ok(written.as_slice() == want)
+    match read_mail_file(alloc, text) {
+        Ok(mail) => Ok(write_mail_file(alloc, &mail)?.as_slice() == want),
+        Err(_) => Ok(false),
+    }
 }
 
 /// A mail file, and how its mail is written.
@@ -27,19 +28,18 @@ const WRITTEN: [(&str, &str); 3] = [
     ),
 ];
 
+/// Whether the mail is written so, and the same where it is read from that.
+fn has_one_form(alloc: Global, text: &str, want: &str) -> Result<bool, Fail> {
+    Ok(
+        is_written_as(alloc, text.as_bytes(), want.as_bytes())?
+            && is_written_as(alloc, want.as_bytes(), want.as_bytes())?,
+    )
+}
+
 #[test]
 fn writes_each_mail_in_one_form(rt: HostRuntime) -> Result<(), Fail> {
     for (text, want) in WRITTEN {
-        assert_so(
-            &rt,
-            is_written_as(rt.alloc(), text.as_bytes(), want.as_bytes())?,
-            text,
-        );
-        assert_so(
-            &rt,
-            is_written_as(rt.alloc(), want.as_bytes(), want.as_bytes())?,
-            want,
-        );
+        assert_so(&rt, has_one_form(rt.alloc(), text, want)?, text);
     }
     Ok(())
 }

@@ -2,16 +2,16 @@
 use std::alloc::{AllocError, Global};
 use std::process::Abort;
 
-/// The front, and behind it so many of the byte.
-pub(crate) fn stretched(
-    alloc: Global,
-    front: &[u8],
-    byte: u8,
-    count: usize,
-) -> Result<Vec<u8>, AllocError> {
-    let mut text = Vec::from_slice(alloc, front)?;
-    let tail = vec![in alloc; byte; count]?;
-    text.extend_from_slice(&tail)?;
+/// A text, how many copies of it there are, and the rest.
+pub(crate) type Copied = (&'static str, usize, &'static str);
+
+/// So many copies of the text, and the rest.
+pub(crate) fn repeated(alloc: Global, (unit, count, rest): Copied) -> Result<Vec<u8>, AllocError> {
+    let mut text = Vec::new(alloc);
+    for _ in 0..count {
+        text.extend_from_slice(unit.as_bytes())?;
+    }
+    text.extend_from_slice(rest.as_bytes())?;
     Ok(text)
 }
 
