@@ -1,4 +1,4 @@
-//! Puts so many pairs as its argument says into a due queue, the earliest first, takes all out again, and prints how many
+//! Puts so many pairs as its argument says into a due queue, the latest first, takes all out again, and prints how many
 //! came in order. `bench/bench.py` compares its times at two numbers. The status is 0 where all came in order, and else 1.
 #![tactic(auto)]
 
@@ -16,12 +16,12 @@ fn count_of<R: Env + AllocGlobal>(rt: &R) -> Option<u32> {
     env::args(rt).ok()?.nth(1)?.parse::<u32>().ok()
 }
 
-/// Puts in a pair for each moment below the count, in order.
+/// Puts in a pair for each moment below the count, the latest first.
 fn fill(queue: &mut DueQueue, count: u32)
     requires empty { queue.old.pairs ≡ [] }
     requires room { count ≤ queue.old.spare }
 {
-    for due in 0..count {
+    for due in (0..count).rev() {
         queue.add(u64::from(due), 0);
     }
 }
