@@ -14,7 +14,6 @@ use Rattle.mj_plan.specs.Sound.{are_different, is_reserved, is_processor, names_
 use Rattle.mj_config_walk.specs.declared.fault.PlanKind.TheVariants.{Twice, ReservedState, TooMany, NoRoot, NoError}
 use Rattle.mj_config_walk.specs.declared.fault.PlanFault.TheVariants.{Refused}
 use Rattle.mj_config_walk.specs.Values.{required, text}
-use Rattle.mj_terms.specs.Answers.{◌>>=◌}
 use Rattle.mj_config_walk.specs.Walk.{Header, tables_or_none, new_name, header_of, headers_from, deliveries, processors_from, has_name, processors_of}
 use Rattle.mj_config_sound.proofs.Holds.{Holds, ok, err, bind, skip, checks, form_of, located_of, after}
 use Rattle.mj_config_sound.proofs.Fresh.{are_new, different, joined}

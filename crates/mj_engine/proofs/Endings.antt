@@ -1,5 +1,5 @@
 -- Each end of a call is what the top call promises.
-use Rattle.std.proofs.Common.{◌≡◌, ◌⊎◌, inl, inr, ◌↔◌, ℕ, ◌||◌, true, false, Bool, List, [], ◌∷◌, ◌++◌, length, take, Option, Some, None, IfSome, Ok, Err, refl, sym, ◌∙◌, ap, subst, append-nil}
+use Rattle.std.proofs.Common.{◌≡◌, ◌⊎◌, inl, inr, ℕ, ◌||◌, true, false, Bool, List, [], ◌∷◌, length, take, Option, Some, None, IfSome, Ok, Err, refl, sym, ◌∙◌, ap, subst, append-nil}
 use Rattle.std.specs.Prelude.{◌==◌}
 use Rattle.std.proofs.Math.Seq.{take-length}
 use Rattle.std.proofs.Math.Bool.{or-false}
@@ -9,10 +9,9 @@ use Rattle.mj_config_walk.specs.declared.fault.PlanFault.{PlanFault}
 use Rattle.mj_config_walk.specs.declared.fault.PlanFault.TheVariants as fault
 use Rattle.mj_config_walk.specs.declared.fault.PlanKind.{PlanKind}
 use Rattle.mj_plan.specs.declared.plan.Plan.{Plan}
-use Rattle.mj_terms.specs.Causes.{Rose}
 use Rattle.mj_io.specs.Grown.{grown}
 use Rattle.mj_report.specs.Faults.{config_line, read_line, usage_line}
-use Rattle.mj_engine.specs.Run.{output, plan_in, output_by}
+use Rattle.mj_engine.specs.Run.{output, plan_in}
 use Rattle.mj_engine.specs.Ends.{ends_of_run, GrowsByFront, GrowsByLine}
 use Rattle.mj_engine.specs.Top.{Call, Rises, IsFaultLine, Gains, Runs, is_run, is_status, has_begun, is_one_of}
 

@@ -1,5 +1,5 @@
 -- Lines of a head (RFC 5322, 2.2): names of fields, and lines that continue a field.
-use Rattle.std.specs.Prelude.{ℕ, nat_le, ◌==◌, Bool, false, not, ◌&&◌, if◌then◌else◌, List, [], ◌∷◌, length}
+use Rattle.std.specs.Prelude.{ℕ, nat_le, ◌==◌, Bool, false, not, ◌&&◌, List, [], ◌∷◌, length}
 use Rattle.std.specs.List.{list_all}
 use Rattle.mj_terms.specs.Text.{before, is_blank}
 
