@@ -2,6 +2,7 @@
 use crate::texts::{assert_so, stretched};
 use mj_head_lines::plain_lines;
 use std::alloc::{AllocError, Global};
+use std::process::Abort;
 use std::test::Fail;
 
 /// The text with bytes of an unfinished line behind it, so many bytes in all.
@@ -36,38 +37,43 @@ const LINES: [(&str, (usize, u32)); 18] = [
     ("a:b\r\nc:d\r", (5, 1)),
 ];
 
+/// The same of texts with bytes that are no UTF-8.
+const OTHER_BYTES: [(&[u8], (usize, u32)); 2] = [
+    (b"a:b\r\nc\xe9:d\r\n", (5, 1)),
+    (b"a:\xe9\r\nc:\x00\r\n", (10, 2)),
+];
+
+#[test]
+fn takes_plain_lines(rt: HostRuntime) -> Result<(), Fail> {
+    for (text, want) in LINES {
+        assert_so(&rt, found(rt.alloc(), text.as_bytes(), 64)? == want, text);
+    }
+    for (text, want) in OTHER_BYTES {
+        assert_so(&rt, found(rt.alloc(), text, 64)? == want, "other bytes");
+    }
+    Ok(())
+}
+
 /// Twelve lines of five bytes, and one more as far as the end of the block.
 const FULL: &[u8] =
     b"a:b\r\na:b\r\na:b\r\na:b\r\na:b\r\na:b\r\na:b\r\na:b\r\na:b\r\na:b\r\na:b\r\na:b\r\nc:\r\n";
 
-#[test]
-fn takes_plain_lines(rt: HostRuntime) -> Result<(), Fail> {
-    let alloc = rt.alloc();
-    for (text, want) in LINES {
-        assert_so(&rt, found(alloc, text.as_bytes(), 64)? == want, text);
-    }
-    let name = b"a:b\r\nc\xe9:d\r\n";
+fn check_blocks(rt: &impl Abort) {
+    assert_so(rt, plain_lines(FULL) == (64, 13), "a full block");
+    assert_so(rt, plain_lines(&FULL[..63]) == (0, 0), "a byte less");
     assert_so(
-        &rt,
-        found(alloc, name, 64)? == (5, 1),
-        "another byte in a name",
-    );
-    let body = b"a:\xe9\r\nc:\x00\r\n";
-    assert_so(
-        &rt,
-        found(alloc, body, 64)? == (10, 2),
-        "other bytes in bodies",
-    );
-    assert_so(&rt, plain_lines(FULL) == (64, 13), "a full block");
-    assert_so(&rt, plain_lines(&FULL[..63]) == (0, 0), "a byte less");
-    assert_so(
-        &rt,
+        rt,
         plain_lines(&FULL[1..]) == (0, 0),
         "a byte less in front",
     );
+}
+
+#[test]
+fn takes_whole_blocks(rt: HostRuntime) -> Result<(), Fail> {
+    check_blocks(&rt);
     assert_so(
         &rt,
-        found(alloc, &FULL[..62], 100)? == (60, 12),
+        found(rt.alloc(), &FULL[..62], 100)? == (60, 12),
         "over a block",
     );
     Ok(())
