@@ -1,6 +1,6 @@
 //! Configurations with one fault at each place, and pairs of faults whose order decides.
 use crate::texts::{
-    ALL, ERROR, NULL, Place, ROOT, SPOOL, STEP, add, assert_so, fault_at, fault_in, whole,
+    ALL, ERROR, NULL, Place, ROOT, SPOOL, STEP, add, assert_so, fault_at, fault_in,
 };
 use mj_config::{PlanFault, PlanKind};
 use std::alloc::Global;
@@ -30,6 +30,9 @@ fn fault_of(alloc: Global, (front, back): Place, case: &str) -> Result<Option<Pl
     Ok(fault_in(alloc, &text))
 }
 
+/// Cases at a place, and the kind, the processor and the step of their fault; nothing where they are taken.
+type Group = (Place, &'static [&'static str], Option<(PlanKind, u32, u32)>);
+
 /// Fails where one of these cases has another fault.
 fn assert_all(
     rt: &(impl Abort + AllocGlobal),
@@ -39,6 +42,13 @@ fn assert_all(
 ) -> Result<(), Fail> {
     for case in cases {
         assert_so(rt, fault_of(rt.alloc(), place, case)? == want, case);
+    }
+    Ok(())
+}
+
+fn assert_groups(rt: &(impl Abort + AllocGlobal), groups: &[Group]) -> Result<(), Fail> {
+    for &(place, cases, at) in groups {
+        assert_all(rt, place, cases, fault_at(at))?;
     }
     Ok(())
 }
@@ -73,15 +83,18 @@ const FILES_NO_ROOT: [&str; 1] = [
     "[spool]\nhost_name = \"a.test\"\npostmaster = \"p@a.test\"\nlocal_hosts = []\nlocal_users = []\nstart = \"2024-02-29T00:00:00Z\"",
 ];
 
+const FILES: [Group; 6] = [
+    (FILE, &FILES_MISSING, Some((PlanKind::Missing, 0, 0))),
+    (FILE, &FILES_NOT_TOML, Some((PlanKind::NotToml, 0, 0))),
+    (FILE, &FILES_WRONG_TYPE, Some((PlanKind::WrongType, 0, 0))),
+    (FILE, &FILES_BAD_ADDRESS, Some((PlanKind::BadAddress, 0, 0))),
+    (FILE, &FILES_BAD_MOMENT, Some((PlanKind::BadMoment, 0, 0))),
+    (FILE, &FILES_NO_ROOT, Some((PlanKind::NoRoot, 0, 0))),
+];
+
 #[test]
 fn the_file_and_its_spool(rt: HostRuntime) -> Result<(), Fail> {
-    assert_all(&rt, FILE, &FILES_MISSING, whole(PlanKind::Missing))?;
-    assert_all(&rt, FILE, &FILES_NOT_TOML, whole(PlanKind::NotToml))?;
-    assert_all(&rt, FILE, &FILES_WRONG_TYPE, whole(PlanKind::WrongType))?;
-    assert_all(&rt, FILE, &FILES_BAD_ADDRESS, whole(PlanKind::BadAddress))?;
-    assert_all(&rt, FILE, &FILES_BAD_MOMENT, whole(PlanKind::BadMoment))?;
-    assert_all(&rt, FILE, &FILES_NO_ROOT, whole(PlanKind::NoRoot))?;
-    Ok(())
+    assert_groups(&rt, &FILES)
 }
 
 /// Lines of a table `[spool]` that has the other keys.
@@ -97,22 +110,23 @@ const HOPS_TAKEN: [&str; 3] = ["max_hops = 1\n", "max_hops = \"1000\"\n", "rewri
 
 const HOPS_WRONG_TYPE: [&str; 2] = ["max_hops = 5.0\n", "max_hops = true\nrewrite = 5\n"];
 
-#[test]
-fn the_limit_of_hops(rt: HostRuntime) -> Result<(), Fail> {
-    assert_all(
-        &rt,
+const HOPS: [Group; 3] = [
+    (
         BEFORE_ROOT,
         &HOPS_BAD_ARGUMENT,
-        whole(PlanKind::BadArgument),
-    )?;
-    assert_all(&rt, BEFORE_ROOT, &HOPS_TAKEN, None)?;
-    assert_all(
-        &rt,
+        Some((PlanKind::BadArgument, 0, 0)),
+    ),
+    (BEFORE_ROOT, &HOPS_TAKEN, None),
+    (
         BEFORE_ROOT,
         &HOPS_WRONG_TYPE,
-        whole(PlanKind::WrongType),
-    )?;
-    Ok(())
+        Some((PlanKind::WrongType, 0, 0)),
+    ),
+];
+
+#[test]
+fn the_limit_of_hops(rt: HostRuntime) -> Result<(), Fail> {
+    assert_groups(&rt, &HOPS)
 }
 
 /// Rewrite tables.
@@ -146,34 +160,33 @@ const REWRITES_TAKEN: [&str; 3] = [
     "[[rewrite]]\nfrom = \"a@b.test\"\ndomain = \"b.test\"\nto_domain = \"d.test\"\n",
 ];
 
-#[test]
-fn rows_of_the_rewrite_table(rt: HostRuntime) -> Result<(), Fail> {
-    assert_all(
-        &rt,
+const REWRITES: [Group; 5] = [
+    (
         BEFORE_ROOT,
         &REWRITES_WRONG_TYPE,
-        whole(PlanKind::WrongType),
-    )?;
-    assert_all(
-        &rt,
+        Some((PlanKind::WrongType, 0, 0)),
+    ),
+    (
         BEFORE_ROOT,
         &REWRITES_MISSING,
-        whole(PlanKind::Missing),
-    )?;
-    assert_all(
-        &rt,
+        Some((PlanKind::Missing, 0, 0)),
+    ),
+    (
         BEFORE_ROOT,
         &REWRITES_BAD_ADDRESS,
-        whole(PlanKind::BadAddress),
-    )?;
-    assert_all(
-        &rt,
+        Some((PlanKind::BadAddress, 0, 0)),
+    ),
+    (
         BEFORE_ROOT,
         &REWRITES_BAD_ARGUMENT,
-        whole(PlanKind::BadArgument),
-    )?;
-    assert_all(&rt, BEFORE_ROOT, &REWRITES_TAKEN, None)?;
-    Ok(())
+        Some((PlanKind::BadArgument, 0, 0)),
+    ),
+    (BEFORE_ROOT, &REWRITES_TAKEN, None),
+];
+
+#[test]
+fn rows_of_the_rewrite_table(rt: HostRuntime) -> Result<(), Fail> {
+    assert_groups(&rt, &REWRITES)
 }
 
 /// Tables `[[processor]]`, by their fault; a key of the document stands in front of `[spool]`.
@@ -213,64 +226,58 @@ const PROCESSORS_MISSING_IN_STEP: [&str; 1] = [
     "[[processor]]\nname = \"root\"\n[[processor]]\nname = \"error\"\n[[processor.step]]\n",
 ];
 
-#[test]
-fn names_of_processors(rt: HostRuntime) -> Result<(), Fail> {
-    assert_all(
-        &rt,
+const PROCESSORS: [Group; 10] = [
+    (
         AT_FRONT,
         &PROCESSORS_WRONG_TYPE,
-        whole(PlanKind::WrongType),
-    )?;
-    assert_all(
-        &rt,
+        Some((PlanKind::WrongType, 0, 0)),
+    ),
+    (
         BEHIND_SPOOL,
         &PROCESSORS_MISSING,
-        fault_at(PlanKind::Missing, 1, 0),
-    )?;
-    assert_all(
-        &rt,
+        Some((PlanKind::Missing, 1, 0)),
+    ),
+    (
         BEHIND_SPOOL,
         &PROCESSORS_WRONG_TYPE_IN_ONE,
-        fault_at(PlanKind::WrongType, 1, 0),
-    )?;
-    assert_all(
-        &rt,
+        Some((PlanKind::WrongType, 1, 0)),
+    ),
+    (
         BEHIND_SPOOL,
         &PROCESSORS_BAD_ARGUMENT,
-        fault_at(PlanKind::BadArgument, 1, 0),
-    )?;
-    assert_all(
-        &rt,
+        Some((PlanKind::BadArgument, 1, 0)),
+    ),
+    (
         BEHIND_SPOOL,
         &PROCESSORS_RESERVED_STATE,
-        fault_at(PlanKind::ReservedState, 1, 0),
-    )?;
-    assert_all(
-        &rt,
+        Some((PlanKind::ReservedState, 1, 0)),
+    ),
+    (
         BEHIND_SPOOL,
         &PROCESSORS_NO_ROOT,
-        whole(PlanKind::NoRoot),
-    )?;
-    assert_all(
-        &rt,
+        Some((PlanKind::NoRoot, 0, 0)),
+    ),
+    (
         BEHIND_SPOOL,
         &PROCESSORS_TWICE,
-        fault_at(PlanKind::Twice, 2, 0),
-    )?;
-    assert_all(
-        &rt,
+        Some((PlanKind::Twice, 2, 0)),
+    ),
+    (
         BEHIND_SPOOL,
         &PROCESSORS_NO_ERROR,
-        whole(PlanKind::NoError),
-    )?;
-    assert_all(&rt, BEHIND_SPOOL, &PROCESSORS_TAKEN, None)?;
-    assert_all(
-        &rt,
+        Some((PlanKind::NoError, 0, 0)),
+    ),
+    (BEHIND_SPOOL, &PROCESSORS_TAKEN, None),
+    (
         BEHIND_SPOOL,
         &PROCESSORS_MISSING_IN_STEP,
-        fault_at(PlanKind::Missing, 2, 1),
-    )?;
-    Ok(())
+        Some((PlanKind::Missing, 2, 1)),
+    ),
+];
+
+#[test]
+fn names_of_processors(rt: HostRuntime) -> Result<(), Fail> {
+    assert_groups(&rt, &PROCESSORS)
 }
 
 const MATCHERS_TAKEN: [&str; 27] = [
@@ -355,34 +362,33 @@ const MATCHERS_BAD_ADDRESS: [&str; 3] = [
     "\"SenderHostIs=-\"",
 ];
 
-#[test]
-fn matchers(rt: HostRuntime) -> Result<(), Fail> {
-    assert_all(&rt, AT_MATCH, &MATCHERS_TAKEN, None)?;
-    assert_all(
-        &rt,
+const MATCHERS: [Group; 5] = [
+    (AT_MATCH, &MATCHERS_TAKEN, None),
+    (
         AT_MATCH,
         &MATCHERS_BAD_ARGUMENT,
-        fault_at(PlanKind::BadArgument, 1, 1),
-    )?;
-    assert_all(
-        &rt,
+        Some((PlanKind::BadArgument, 1, 1)),
+    ),
+    (
         AT_MATCH,
         &MATCHERS_UNKNOWN_MATCHER,
-        fault_at(PlanKind::UnknownMatcher, 1, 1),
-    )?;
-    assert_all(
-        &rt,
+        Some((PlanKind::UnknownMatcher, 1, 1)),
+    ),
+    (
         AT_MATCH,
         &MATCHERS_WRONG_TYPE,
-        fault_at(PlanKind::WrongType, 1, 1),
-    )?;
-    assert_all(
-        &rt,
+        Some((PlanKind::WrongType, 1, 1)),
+    ),
+    (
         AT_MATCH,
         &MATCHERS_BAD_ADDRESS,
-        fault_at(PlanKind::BadAddress, 1, 1),
-    )?;
-    Ok(())
+        Some((PlanKind::BadAddress, 1, 1)),
+    ),
+];
+
+#[test]
+fn matchers(rt: HostRuntime) -> Result<(), Fail> {
+    assert_groups(&rt, &MATCHERS)
 }
 
 const LINES_MISSING: [&str; 4] = [
@@ -462,46 +468,43 @@ const LINES_BAD_ADDRESS: [&str; 2] = [
     "class = \"RemoteDelivery\"\ngateway = \"-\"\nbounceProcessor = \"nowhere\"\n",
 ];
 
-#[test]
-fn classes_and_parameters(rt: HostRuntime) -> Result<(), Fail> {
-    assert_all(
-        &rt,
+const LINES: [Group; 7] = [
+    (
         BEHIND_MATCH,
         &LINES_MISSING,
-        fault_at(PlanKind::Missing, 1, 1),
-    )?;
-    assert_all(
-        &rt,
+        Some((PlanKind::Missing, 1, 1)),
+    ),
+    (
         BEHIND_MATCH,
         &LINES_WRONG_TYPE,
-        fault_at(PlanKind::WrongType, 1, 1),
-    )?;
-    assert_all(
-        &rt,
+        Some((PlanKind::WrongType, 1, 1)),
+    ),
+    (
         BEHIND_MATCH,
         &LINES_UNKNOWN_CLASS,
-        fault_at(PlanKind::UnknownClass, 1, 1),
-    )?;
-    assert_all(&rt, BEHIND_MATCH, &LINES_TAKEN, None)?;
-    assert_all(
-        &rt,
+        Some((PlanKind::UnknownClass, 1, 1)),
+    ),
+    (BEHIND_MATCH, &LINES_TAKEN, None),
+    (
         BEHIND_MATCH,
         &LINES_UNKNOWN_PROCESSOR,
-        fault_at(PlanKind::UnknownProcessor, 1, 1),
-    )?;
-    assert_all(
-        &rt,
+        Some((PlanKind::UnknownProcessor, 1, 1)),
+    ),
+    (
         BEHIND_MATCH,
         &LINES_BAD_ARGUMENT,
-        fault_at(PlanKind::BadArgument, 1, 1),
-    )?;
-    assert_all(
-        &rt,
+        Some((PlanKind::BadArgument, 1, 1)),
+    ),
+    (
         BEHIND_MATCH,
         &LINES_BAD_ADDRESS,
-        fault_at(PlanKind::BadAddress, 1, 1),
-    )?;
-    Ok(())
+        Some((PlanKind::BadAddress, 1, 1)),
+    ),
+];
+
+#[test]
+fn classes_and_parameters(rt: HostRuntime) -> Result<(), Fail> {
+    assert_groups(&rt, &LINES)
 }
 
 /// Remote deliveries of the names `outgoing`, which is that of one without a name, and `Outgoing`.
@@ -525,7 +528,15 @@ const OUTGOING: &str =
 
 #[test]
 fn names_of_remote_deliveries(rt: HostRuntime) -> Result<(), Fail> {
-    let twice = fault_at(PlanKind::Twice, 2, 2);
-    assert_all(&rt, BEHIND_DELIVERIES, &[OUTGOING], twice)?;
-    assert_all(&rt, BEHIND_DELIVERIES, &[""], None)
+    assert_groups(
+        &rt,
+        &[
+            (
+                BEHIND_DELIVERIES,
+                &[OUTGOING],
+                Some((PlanKind::Twice, 2, 2)),
+            ),
+            (BEHIND_DELIVERIES, &[""], None),
+        ],
+    )
 }

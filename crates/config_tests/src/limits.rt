@@ -1,8 +1,7 @@
 //! Configurations at their limits, and one past them.
-use crate::texts::{ERROR, NULL, ROOT, SPOOL, STEP, add, assert_so, fault_at, fault_in, whole};
+use crate::texts::{ERROR, NULL, ROOT, SPOOL, STEP, add, assert_so, fault_at, fault_in};
 use mj_config::{PlanFault, PlanKind};
 use std::alloc::Global;
-use std::process::Abort;
 use std::test::Fail;
 
 /// What stands in front, what there are copies of, and what stands behind them.
@@ -66,42 +65,47 @@ fn deep_text(alloc: Global, depth: u32) -> Result<Vec<u8>, Fail> {
     Ok(text)
 }
 
-/// Fails where the configuration with so many copies has another fault.
-fn assert_limit(
-    rt: &(impl Abort + AllocGlobal),
-    copied: Copied,
-    count: u32,
-    want: Option<PlanFault>,
-) -> Result<(), Fail> {
-    let found = fault_in(rt.alloc(), &text_of(rt.alloc(), copied, count)?);
-    assert_so(rt, found == want, copied.1);
-    Ok(())
+/// The fault of the configuration with so many copies.
+fn fault_of(alloc: Global, copied: Copied, count: u32) -> Result<Option<PlanFault>, Fail> {
+    Ok(fault_in(alloc, &text_of(alloc, copied, count)?))
 }
 
-/// Fails where the configuration with a matcher of this depth has another fault.
-fn assert_depth(
-    rt: &(impl Abort + AllocGlobal),
-    depth: u32,
-    want: Option<PlanFault>,
-) -> Result<(), Fail> {
-    let found = fault_in(rt.alloc(), &deep_text(rt.alloc(), depth)?);
-    assert_so(rt, found == want, "a depth");
+/// The fault of the configuration with a matcher of this depth.
+fn fault_of_depth(alloc: Global, depth: u32) -> Result<Option<PlanFault>, Fail> {
+    Ok(fault_in(alloc, &deep_text(alloc, depth)?))
+}
+
+/// Copies, how many, and the kind, the processor and the step of the fault; nothing where they are taken.
+const LIMITS: [(Copied, u32, Option<(PlanKind, u32, u32)>); 10] = [
+    (CHILDREN, 100, None),
+    (CHILDREN, 101, Some((PlanKind::TooMany, 1, 1))),
+    (TARGETS, 100, None),
+    (TARGETS, 101, Some((PlanKind::TooMany, 0, 0))),
+    (STEPS, 200, None),
+    (STEPS, 201, Some((PlanKind::TooMany, 2, 0))),
+    (ROWS, 1_000, None),
+    (ROWS, 1_001, Some((PlanKind::TooMany, 0, 0))),
+    (LINES, 1_048_000, Some((PlanKind::NoRoot, 0, 0))),
+    (LINES, 1_048_576, Some((PlanKind::TooLarge, 0, 0))),
+];
+
+#[test]
+fn limits(rt: HostRuntime) -> Result<(), Fail> {
+    for (copied, count, at) in &LIMITS {
+        let found = fault_of(rt.alloc(), *copied, *count)?;
+        assert_so(&rt, found == fault_at(*at), copied.1);
+    }
     Ok(())
 }
 
 #[test]
-fn limits(rt: HostRuntime) -> Result<(), Fail> {
-    assert_limit(&rt, CHILDREN, 100, None)?;
-    assert_limit(&rt, CHILDREN, 101, fault_at(PlanKind::TooMany, 1, 1))?;
-    assert_depth(&rt, 16, None)?;
-    assert_depth(&rt, 17, fault_at(PlanKind::TooDeep, 1, 1))?;
-    assert_limit(&rt, TARGETS, 100, None)?;
-    assert_limit(&rt, TARGETS, 101, whole(PlanKind::TooMany))?;
-    assert_limit(&rt, STEPS, 200, None)?;
-    assert_limit(&rt, STEPS, 201, fault_at(PlanKind::TooMany, 2, 0))?;
-    assert_limit(&rt, ROWS, 1_000, None)?;
-    assert_limit(&rt, ROWS, 1_001, whole(PlanKind::TooMany))?;
-    assert_limit(&rt, LINES, 1_048_000, whole(PlanKind::NoRoot))?;
-    assert_limit(&rt, LINES, 1_048_576, whole(PlanKind::TooLarge))?;
+fn depths_of_matchers(rt: HostRuntime) -> Result<(), Fail> {
+    assert_so(
+        &rt,
+        fault_of_depth(rt.alloc(), 16)?.is_none(),
+        "the deepest",
+    );
+    let too_deep = fault_at(Some((PlanKind::TooDeep, 1, 1)));
+    assert_so(&rt, fault_of_depth(rt.alloc(), 17)? == too_deep, "one more");
     Ok(())
 }

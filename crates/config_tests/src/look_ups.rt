@@ -3,6 +3,7 @@ use crate::texts::{ALL, ERROR, ROOT, SPOOL, STEP, assert_so, joined};
 use mj_config::read_plan;
 use mj_plan::Plan;
 use std::alloc::Global;
+use std::process::Abort;
 use std::test::Fail;
 
 /// A step's remote deliveries, with one retry and with three.
@@ -32,22 +33,27 @@ fn retries(plan: &Plan, name: &[u8]) -> Option<usize> {
     plan.schedule(name).map(|schedule| schedule.len())
 }
 
+/// Names, whether each is a processor's, and the retries of the remote delivery of that name.
+const NAMES: [(&str, (bool, Option<usize>)); 5] = [
+    ("error", (true, None)),
+    ("Error", (false, None)),
+    ("out", (false, Some(1))),
+    ("late", (false, Some(3))),
+    ("lat", (false, None)),
+];
+
+fn looked_up(plan: &Plan, name: &[u8]) -> (bool, Option<usize>) {
+    (finds(plan, name), retries(plan, name))
+}
+
+fn check_names(rt: &impl Abort, plan: &Plan) {
+    for (name, want) in NAMES {
+        assert_so(rt, looked_up(plan, name.as_bytes()) == want, name);
+    }
+}
+
 #[test]
 fn look_ups(rt: HostRuntime) -> Result<(), Fail> {
-    let plan = delivering_plan(rt.alloc())?;
-    let rows = [
-        ("error", (true, None)),
-        ("Error", (false, None)),
-        ("out", (false, Some(1))),
-        ("late", (false, Some(3))),
-        ("lat", (false, None)),
-    ];
-    for (name, want) in rows {
-        let found = (
-            finds(&plan, name.as_bytes()),
-            retries(&plan, name.as_bytes()),
-        );
-        assert_so(&rt, found == want, name);
-    }
+    check_names(&rt, &delivering_plan(rt.alloc())?);
     Ok(())
 }

@@ -43,18 +43,14 @@ pub(crate) fn fault_in(alloc: Global, text: &[u8]) -> Option<PlanFault> {
     read_plan(alloc, text).err()
 }
 
-/// The fault of this kind in this step of this processor.
-pub(crate) fn fault_at(kind: PlanKind, processor: u32, step: u32) -> Option<PlanFault> {
+/// The fault of this kind in this step of this processor, where there is one.
+pub(crate) fn fault_at(at: Option<(PlanKind, u32, u32)>) -> Option<PlanFault> {
+    let (kind, processor, step) = at?;
     Some(PlanFault::Refused {
         kind,
         processor,
         step,
     })
-}
-
-/// The fault of this kind of the configuration as a whole.
-pub(crate) fn whole(kind: PlanKind) -> Option<PlanFault> {
-    fault_at(kind, 0, 0)
 }
 
 /// Fails where it isn't so. The case is what is looked at.

@@ -2,55 +2,73 @@
 ghost use Rattle.std.specs.Prelude.{◌≡◌, IfOk};
 ghost use Rattle.mj_head.specs.Head.{written};
 
-use crate::texts::stretched;
-use mj_head::{Head, HeadFault, is_field_name, is_field_value, read_head, write_head};
+use crate::texts::{assert_so, stretched};
+use mj_head::{Fields, Head, HeadFault, is_field_name, is_field_value, read_head, write_head};
 use std::alloc::{AllocError, Global};
+use std::process::Abort;
 use std::test::Fail;
 
 const MESSAGE: &str =
     "Received: from a.test by mx.example.org; Mon, 01 Jan 2024 00:00:00 +0000\r\nFrom: Cara <cara@example.net>\r\nTo: Ann <ann@example.org>,\r\n dan@example.net\r\nSubject: =?UTF-8?Q?Gr=C3=BC=C3=9Fe?=\r\nMessage-ID: <1@example.net>\r\nMIME-Version: 1.0\r\nContent-Type: text/plain; charset=utf-8\r\n\r\nhello\r\n";
+
+fn head_of(alloc: Global, bytes: &[u8]) -> Result<Head, HeadFault> {
+    let (head, _place) = read_head(alloc, bytes)?;
+    Ok(head)
+}
 
 fn place_of(alloc: Global, bytes: &[u8]) -> Result<usize, HeadFault> {
     let (_head, place) = read_head(alloc, bytes)?;
     Ok(place)
 }
 
+/// A text, and where its body begins.
+const TAKEN: [(&str, usize); 12] = [
+    ("", 0),
+    ("\n", 1),
+    ("\r\n", 2),
+    ("\r\na: b\r\n", 2),
+    ("Subject: one", 12),
+    ("Subject: one\n\nhello\r\n", 14),
+    ("Subject: one\r\n\r\nhello\r\n", 16),
+    ("a: b\r\r\n\r\nc", 9),
+    ("a: b\rc\r\n\r\n", 10),
+    ("a \t : b\r\n", 9),
+    ("a:\r\n \r\n\r\nb", 9),
+    (MESSAGE, 280),
+];
+
+/// Texts whose first line goes on with none.
+const CONTINUATION_FIRST: [&str; 2] = [" a: b\r\n", "\t\r\n"];
+
+/// Texts, and which line has no colon.
+const NO_COLON: [(&str, u32); 2] = [("\r", 1), ("a: b\r\nc: d\r\nnone\r\n: x", 3)];
+
+/// Texts, and which line has a bad name.
+const BAD_NAME: [(&str, u32); 3] = [
+    (": x\r\n", 1),
+    ("a b: c\r\n", 1),
+    ("a: b\n c\n\0: d\nnone\n", 3),
+];
+
+fn assert_place(rt: &(impl Abort + AllocGlobal), text: &str, want: Result<usize, HeadFault>) {
+    assert_so(rt, place_of(rt.alloc(), text.as_bytes()) == want, text);
+}
+
 #[test]
 fn finds_the_body_and_the_first_fault(rt: HostRuntime) {
-    let rows = [
-        ("", Ok(0)),
-        ("\n", Ok(1)),
-        ("\r\n", Ok(2)),
-        ("\r\na: b\r\n", Ok(2)),
-        ("Subject: one", Ok(12)),
-        ("Subject: one\n\nhello\r\n", Ok(14)),
-        ("Subject: one\r\n\r\nhello\r\n", Ok(16)),
-        ("a: b\r\r\n\r\nc", Ok(9)),
-        ("a: b\rc\r\n\r\n", Ok(10)),
-        ("a \t : b\r\n", Ok(9)),
-        ("a:\r\n \r\n\r\nb", Ok(9)),
-        (" a: b\r\n", Err(HeadFault::ContinuationFirst { line: 1 })),
-        ("\t\r\n", Err(HeadFault::ContinuationFirst { line: 1 })),
-        ("\r", Err(HeadFault::NoColon { line: 1 })),
-        (
-            "a: b\r\nc: d\r\nnone\r\n: x",
-            Err(HeadFault::NoColon { line: 3 }),
-        ),
-        (": x\r\n", Err(HeadFault::BadName { line: 1 })),
-        ("a b: c\r\n", Err(HeadFault::BadName { line: 1 })),
-        (
-            "a: b\n c\n\0: d\nnone\n",
-            Err(HeadFault::BadName { line: 3 }),
-        ),
-        (MESSAGE, Ok(280)),
-    ];
-    for (text, want) in rows {
-        assert!(rt;
-            place_of(rt.alloc(), text.as_bytes()) == want,
-            "at {text:?}"
-        );
+    for (text, place) in TAKEN {
+        assert_place(&rt, text, Ok(place));
     }
-    assert_eq!(rt; MESSAGE.len(), 287);
+    for text in CONTINUATION_FIRST {
+        assert_place(&rt, text, Err(HeadFault::ContinuationFirst { line: 1 }));
+    }
+    for (text, line) in NO_COLON {
+        assert_place(&rt, text, Err(HeadFault::NoColon { line }));
+    }
+    for (text, line) in BAD_NAME {
+        assert_place(&rt, text, Err(HeadFault::BadName { line }));
+    }
+    assert_so(&rt, MESSAGE.len() == 287, "the message");
 }
 
 /// Where the body begins behind a field with so many letters and this behind them.
@@ -66,62 +84,112 @@ fn place_behind(
 
 #[test]
 fn limits_the_written_form(rt: HostRuntime) -> Result<(), Fail> {
-    let rows = [
-        (65_532, "", Ok(65_534)),
-        (65_533, "", Err(HeadFault::TooLong { line: 1 })),
-        (65_528, "\n x", Ok(65_533)),
-        (65_528, "\n xx", Err(HeadFault::TooLong { line: 2 })),
-    ];
-    for (count, back, want) in rows {
-        let found = place_behind(rt.alloc(), count, back)?;
-        assert!(rt; found == want, "at {count} and {back:?}");
+    let alloc = rt.alloc();
+    let too_long = |line| Err(HeadFault::TooLong { line });
+    assert_so(
+        &rt,
+        place_behind(alloc, 65_532, "")? == Ok(65_534),
+        "one line",
+    );
+    assert_so(
+        &rt,
+        place_behind(alloc, 65_533, "")? == too_long(1),
+        "one more",
+    );
+    assert_so(
+        &rt,
+        place_behind(alloc, 65_528, "\n x")? == Ok(65_533),
+        "two lines",
+    );
+    assert_so(
+        &rt,
+        place_behind(alloc, 65_528, "\n xx")? == too_long(2),
+        "one more",
+    );
+    Ok(())
+}
+
+/// Whether the first field of this name unfolds to this.
+fn unfolds(alloc: Global, head: &Head, name: &[u8], want: &[u8]) -> Result<bool, AllocError> {
+    match head.unfolded(alloc, name)? {
+        Some(value) => Ok(value.as_slice() == want),
+        None => Ok(false),
     }
+}
+
+fn check_unfolding(rt: &(impl Abort + AllocGlobal), head: &Head) -> Result<(), AllocError> {
+    assert_so(
+        rt,
+        unfolds(rt.alloc(), head, b"SUBJECT", b"a\tb")?,
+        "Subject",
+    );
+    assert_so(rt, head.unfolded(rt.alloc(), b"To")?.is_none(), "To");
+    assert_so(rt, head.count(b"X") == 2, "X");
     Ok(())
 }
 
 #[test]
 fn unfolds_fields(rt: HostRuntime) -> Result<(), Fail> {
-    let (head, _place) = read_head(rt.alloc(), b"Subject: a\r\n\tb\r\nX: 1\r\nx: 2\r\n\r\n")?;
-    let subject = head.unfolded(rt.alloc(), b"SUBJECT")?.ok_or("no subject")?;
-    assert!(rt; subject.as_slice() == b"a\tb".as_slice());
-    assert!(rt; head.unfolded(rt.alloc(), b"To")?.is_none());
-    assert!(rt; head.count(b"X") == 2);
+    let head = head_of(rt.alloc(), b"Subject: a\r\n\tb\r\nX: 1\r\nx: 2\r\n\r\n")?;
+    check_unfolding(&rt, &head)?;
     Ok(())
+}
+
+/// Whether the head is written so.
+fn is_written_as(alloc: Global, head: &Head, want: &[u8]) -> Result<bool, AllocError> {
+    Ok(write_head(alloc, head)?.as_slice() == want)
+}
+
+/// Whether the first field was replaced.
+fn replaces(head: &mut Head, name: &[u8], value: &[u8]) -> Result<bool, AllocError> {
+    if is_field_name(name) && is_field_value(value) {
+        head.replace_first(name, value)
+    } else {
+        Ok(false)
+    }
 }
 
 #[test]
 fn replaces_and_writes(rt: HostRuntime) -> Result<(), Fail> {
-    let (mut head, _place) = read_head(rt.alloc(), b"A: 1\nSubject: one\n two\nB: 2\n\nhello\n")?;
-    let name = b"subject".as_slice();
-    let value = b"[x] one".as_slice();
-    assert!(rt; is_field_name(name));
-    assert!(rt; is_field_value(value));
-    assert!(rt; head.replace_first(name, value)?);
-    let text = write_head(rt.alloc(), &head)?;
-    assert!(rt; text.as_slice() == b"A: 1\r\nSubject: [x] one\r\nB: 2\r\n".as_slice());
+    let mut head = head_of(rt.alloc(), b"A: 1\nSubject: one\n two\nB: 2\n\nhello\n")?;
+    assert_so(&rt, replaces(&mut head, b"subject", b"[x] one")?, "Subject");
+    let want = b"A: 1\r\nSubject: [x] one\r\nB: 2\r\n";
+    assert_so(
+        &rt,
+        is_written_as(rt.alloc(), &head, want)?,
+        "the written form",
+    );
     Ok(())
+}
+
+/// Whether the field at this place has this name and this body.
+fn is_at(head: &Head, place: usize, name: &[u8], body: &[u8]) -> bool {
+    match head.get(place) {
+        Some(field) => field.name() == name && field.body() == body,
+        None => false,
+    }
 }
 
 #[test]
 fn takes_out_fields(rt: HostRuntime) -> Result<(), Fail> {
-    let (mut head, _place) = read_head(rt.alloc(), b"X : 1\n 2\nA: 3\r\nx: 4\r\nB:5\r\n\r\n")?;
-    let first = head.get(0).ok_or("no field")?;
-    assert!(rt; first.name() == b"X".as_slice());
-    assert!(rt; first.body() == b" 1\r\n 2".as_slice());
+    let mut head = head_of(rt.alloc(), b"X : 1\n 2\nA: 3\r\nx: 4\r\nB:5\r\n\r\n")?;
+    assert_so(&rt, is_at(&head, 0, b"X", b" 1\r\n 2"), "X");
     head.remove(b"x");
-    let text = write_head(rt.alloc(), &head)?;
-    assert!(rt; text.as_slice() == b"A: 3\r\nB:5\r\n".as_slice());
-    assert!(rt; head.get(2).is_none());
+    assert_so(&rt, head.get(2).is_none(), "no third");
+    assert_so(
+        &rt,
+        is_written_as(rt.alloc(), &head, b"A: 3\r\nB:5\r\n")?,
+        "the rest",
+    );
     Ok(())
 }
 
 #[test]
 fn adds_raw_fields(rt: HostRuntime) -> Result<(), Fail> {
     let mut head = Head::new(rt.alloc());
-    assert!(rt; head.add_raw(b"Y", b" a\r\n b")?);
-    assert!(rt; !head.add_raw(b"Y", b" a\n b")?);
-    let copy = head.copy(rt.alloc())?;
-    assert!(rt; copy.written_len() == 10);
+    assert_so(&rt, head.add_raw(b"Y", b" a\r\n b")?, "a folded body");
+    assert_so(&rt, !head.add_raw(b"Y", b" a\n b")?, "a bare LF");
+    assert_so(&rt, head.copy(rt.alloc())?.written_len() == 10, "a copy");
     Ok(())
 }
 
@@ -155,7 +223,7 @@ fn appends_what_fits(rt: HostRuntime) -> Result<(), Fail> {
     let mut head = Head::new(rt.alloc());
     for (name, count, want) in rows {
         let added = appends_letters(rt.alloc(), &mut head, name.as_bytes(), count)?;
-        assert!(rt; (added, head.written_len()) == want, "at {name:?}");
+        assert_so(&rt, (added, head.written_len()) == want, name);
     }
     Ok(())
 }
@@ -176,42 +244,71 @@ fn written_by_fields(alloc: Global, head: &Head) -> Result<Vec<u8>, AllocError>
 
 #[test]
 fn writes_the_fields(rt: HostRuntime) -> Result<(), Fail> {
-    let (head, _place) = read_head(rt.alloc(), MESSAGE.as_bytes())?;
+    let head = head_of(rt.alloc(), MESSAGE.as_bytes())?;
     let text = written_by_fields(rt.alloc(), &head)?;
-    assert!(rt; MESSAGE.as_bytes().starts_with(text.as_slice()));
-    assert_eq!(rt; text.len(), 278);
+    assert_so(
+        &rt,
+        MESSAGE.as_bytes().starts_with(text.as_slice()),
+        "the message",
+    );
+    assert_so(&rt, text.len() == 278, "its length");
     Ok(())
+}
+
+/// Whether the next field has this name, which is this one in another case, and this body.
+fn is_next(fields: &mut Fields, name: &[u8], other: &[u8], body: &[u8]) -> bool {
+    match fields.next() {
+        Some(field) => field.name() == name && field.is_named(other) && field.body() == body,
+        None => false,
+    }
+}
+
+fn check_fields(rt: &impl Abort, head: &Head) {
+    assert_so(rt, head.fields().count() == 7, "seven fields");
+    let mut fields = head.fields();
+    let received = b" from a.test by mx.example.org; Mon, 01 Jan 2024 00:00:00 +0000";
+    assert_so(
+        rt,
+        is_next(&mut fields, b"Received", b"received", received),
+        "Received",
+    );
+    assert_so(
+        rt,
+        is_next(&mut fields, b"From", b"FROM", b" Cara <cara@example.net>"),
+        "From",
+    );
 }
 
 #[test]
 fn gives_the_fields_in_order(rt: HostRuntime) -> Result<(), Fail> {
-    let (head, _place) = read_head(rt.alloc(), MESSAGE.as_bytes())?;
-    let mut fields = head.fields();
-    let first = fields.next().ok_or("no field")?;
-    assert!(rt; first.is_named(b"received"));
-    let second = fields.next().ok_or("no second field")?;
-    assert!(rt; second.name() == b"From".as_slice());
-    assert!(rt; second.body() == b" Cara <cara@example.net>".as_slice());
+    check_fields(&rt, &head_of(rt.alloc(), MESSAGE.as_bytes())?);
+    assert_so(
+        &rt,
+        Head::new(rt.alloc()).fields().next().is_none(),
+        "no fields",
+    );
     Ok(())
 }
 
-#[test]
-fn counts_the_fields(rt: HostRuntime) -> Result<(), Fail> {
-    let (head, _place) = read_head(rt.alloc(), MESSAGE.as_bytes())?;
-    assert_eq!(rt; head.fields().count(), 7);
-    assert!(rt; Head::new(rt.alloc()).fields().next().is_none());
-    Ok(())
+/// So many fields of a name alone.
+fn many(alloc: Global) -> Result<Vec<u8>, AllocError> {
+    let mut text = Vec::new(alloc);
+    for _ in 0..16_384 {
+        text.extend_from_slice(b"a:\r\n")?;
+    }
+    Ok(text)
+}
+
+/// Whether the head of the text has so many fields, and is written as the text.
+fn is_read_back(alloc: Global, text: &[u8], count: usize) -> Result<bool, Fail> {
+    let head = head_of(alloc, text)?;
+    let again = written_by_fields(alloc, &head)?;
+    Ok(again.as_slice() == text && head.fields().count() == count)
 }
 
 #[test]
 fn gives_many_fields(rt: HostRuntime) -> Result<(), Fail> {
-    let mut text = Vec::new(rt.alloc());
-    for _ in 0..16_384 {
-        text.extend_from_slice(b"a:\r\n")?;
-    }
-    let (head, _place) = read_head(rt.alloc(), &text)?;
-    let again = written_by_fields(rt.alloc(), &head)?;
-    assert!(rt; again.as_slice() == text.as_slice());
-    assert_eq!(rt; head.fields().count(), 16_384);
+    let text = many(rt.alloc())?;
+    assert_so(&rt, is_read_back(rt.alloc(), &text, 16_384)?, "many fields");
     Ok(())
 }

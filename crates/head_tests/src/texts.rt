@@ -1,5 +1,6 @@
-//! Long texts.
+//! Long texts, and what the tests of this crate share.
 use std::alloc::{AllocError, Global};
+use std::process::Abort;
 
 /// The front, and behind it so many of the byte.
 pub(crate) fn stretched(
@@ -12,4 +13,9 @@ pub(crate) fn stretched(
     let tail = vec![in alloc; byte; count]?;
     text.extend_from_slice(&tail)?;
     Ok(text)
+}
+
+/// Fails where it isn't so. The case is what is looked at.
+pub(crate) fn assert_so(rt: &impl Abort, is_so: bool, case: &str) {
+    assert!(rt; is_so, "at {case:?}");
 }
