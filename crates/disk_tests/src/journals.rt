@@ -57,8 +57,8 @@ fn is_stopped(alloc: Global, log: &mut Log<MemoryDisk>, faults: u64) -> Result<b
 #[test]
 fn a_fault_stops_the_log(rt: HostRuntime) -> Result<(), Fail> {
     let alloc = rt.alloc();
-    // seven calls to reopen, and then the third of an append
-    let mut log = log_of(alloc, ONE, &[10], FAR)?;
+    // five calls to reopen, and then the third of an append
+    let mut log = log_of(alloc, ONE, &[8], FAR)?;
     let fault = add(&mut log, b"y");
     let stopped = is_stopped(alloc, &mut log, 1);
     assert!(rt; fault == Err(LogFault::DiskFault { faults: 1 }) && stopped == Ok(true));

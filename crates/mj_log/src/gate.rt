@@ -19,14 +19,18 @@ pub fn put_behind_gate<D: Disk>(disk: &mut D, end: u64, tail: &[u8]) -> Result<(
     disk.sync()
 }
 
-/// Cuts what stands behind the closed gate at `end`.
-pub fn close_behind<D: Disk>(disk: &mut D, end: u64) -> Result<(), DiskFailed>
+/// Cuts what stands behind the closed gate at `end` of a file of this length. Where nothing does, no call is made.
+pub fn close_behind<D: Disk>(disk: &mut D, end: u64, file: u64) -> Result<(), DiskFailed>
+    requires file { Now (D.moments disk.old) (λ m. length m.bytes ≡ file) }
     requires within { Now (D.moments disk.old) (λ m. end + 1 ≤ length m.bytes) }
     requires bound { end < 2 ^ 63 }
     ensures any_moment { (front : List ℕ) (junk : List ℕ) → length front ≡ end → RestsAt (D.moments disk.old) (front ++ 0 ∷ junk) → LeavesOnly (D.moments disk.old) (D.moments disk.new) (IsClosed front) }
     ensures done { (front : List ℕ) (junk : List ℕ) → length front ≡ end → RestsAt (D.moments disk.old) (front ++ 0 ∷ junk) → OnOk result (RestsAt (D.moments disk.new) (front ++ 0 ∷ [])) }
     ensures cause { HasCause (record {}) (D.faults disk.old) (D.faults disk.new) result }
 {
+    if end + 1 == file {
+        return Ok(());
+    }
     disk.cut(end + 1)?;
     disk.sync()
 }

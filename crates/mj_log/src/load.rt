@@ -63,7 +63,7 @@ fn repair<D: Disk>(alloc: Global, disk: &mut D, file: u64) -> Result<Places, Log
     ensures cause { IsCounted (D.faults disk.old) (D.faults disk.new) result }
 {
     let places = scan(alloc, disk, file)?;
-    match close_behind(disk, places.end) {
+    match close_behind(disk, places.end, file) {
         Ok(()) => Ok(places),
         Err(_) => Err(fault_of(disk)),
     }
