@@ -1,5 +1,5 @@
 -- Each end of a call is what the top call promises.
-use Rattle.std.proofs.Common.{◌≡◌, ◌⊎◌, inl, inr, ℕ, ◌||◌, true, false, Bool, List, [], ◌∷◌, length, take, Option, Some, None, IfSome, Ok, Err, refl, sym, ◌∙◌, ap, subst, append-nil}
+use Rattle.std.proofs.Common.{◌≡◌, ◌≤◌, ◌⊎◌, inl, inr, ℕ, ◌||◌, true, false, Bool, List, [], ◌∷◌, length, take, Option, Some, None, IfSome, Ok, Err, refl, sym, ◌∙◌, ap, subst, append-nil}
 use Rattle.std.specs.Prelude.{◌==◌}
 use Rattle.std.proofs.Math.Seq.{take-length}
 use Rattle.std.proofs.Math.Bool.{or-false}
@@ -25,7 +25,7 @@ for_all None h = tt
 for_all (Some x) h = h x
 
 -- a line and no text
-with_line : (call : Call) (status : ℕ) (line : List ℕ) → has_begun status ≡ false → (status ≡ 0 → ⊥) → IsFaultLine call.files status line
+with_line : (call : Call) (status : ℕ) (line : List ℕ) → has_begun status ≡ false → (status ≡ 0 → ⊥) → IsFaultLine call.files.before status line
     → GrowsByLine call.bytes.before call.bytes.after call.sink_faults.before call.sink_faults.after line → Gains call status
 with_line call status line early undone is grows = record {
   text = [];
@@ -44,8 +44,8 @@ no_line : (files : Option (List (List ℕ × List ℕ))) (status : ℕ) → (sta
 no_line files status a b c = record { usage = λ e. absurd (a e); config = λ e. absurd (b e); read = λ e. absurd (c e); none = λ _. refl }
 
 -- a front of the text and no line
-with_text : (call : Call) (status : ℕ) (text : List ℕ) (k : ℕ) → has_begun status ≡ true → IsFaultLine call.files status []
-    → IfSome call.files (λ told. output told ≡ Ok text) → call.bytes.after ≡ grown call.bytes.before (take k text)
+with_text : (call : Call) (status : ℕ) (text : List ℕ) (k : ℕ) → has_begun status ≡ true → IsFaultLine call.files.before status []
+    → IfSome call.files.before (λ told. output told ≡ Ok text) → call.bytes.after ≡ grown call.bytes.before (take k text)
     → (status ≡ 0 → take k text ≡ text) → Gains call status
 with_text call status text k begun none is e whole = record {
   text = text;
@@ -70,7 +70,7 @@ nothing call e = record {
   is_text = λ e. absurd cc;
   whole_text = λ _. refl;
   no_text = λ _. refl;
-  is_line = no_line call.files 12 (λ e. absurd cc) (λ e. absurd cc) (λ e. absurd cc);
+  is_line = no_line call.files.before 12 (λ e. absurd cc) (λ e. absurd cc) (λ e. absurd cc);
   whole_line = λ _. refl;
 }
 
@@ -134,23 +134,23 @@ not_usage status (inr (inr (inr (inr e)))) u = absurd cc
 -- a run whose words are taken
 module _ (call : Call) where
   abbrev Front : (List ℕ → Type 0) → Type 0
-  Front wrote = (text : List ℕ) × IfSome call.files (λ told. output told ≡ Ok text) × wrote text
+  Front wrote = (text : List ℕ) × IfSome call.files.before (λ told. output told ≡ Ok text) × wrote text
 
   abbrev Line : List ℕ → Type 0
   Line line = GrowsByLine call.bytes.before call.bytes.after call.sink_faults.before call.sink_faults.after line
 
   abbrev Config : Type 0
   Config = (kind : PlanKind) × (processor : ℕ) × (step : ℕ)
-      × IfSome call.files (λ told. plan_in told ≡ Err (fault.Refused kind processor step)) × Line (config_line kind processor step)
+      × IfSome call.files.before (λ told. plan_in told ≡ Err (fault.Refused kind processor step)) × Line (config_line kind processor step)
 
   gains_at_0 : Front (λ text. call.bytes.after ≡ grown call.bytes.before text) → Gains call 0
   gains_at_0 h =
       let text = h.0 in
-      with_text call 0 text (length text) refl (no_line call.files 0 (λ e. absurd cc) (λ e. absurd cc) (λ e. absurd cc)) h.1
+      with_text call 0 text (length text) refl (no_line call.files.before 0 (λ e. absurd cc) (λ e. absurd cc) (λ e. absurd cc)) h.1
       (rw (take-length text) h.2) (λ _. take-length text)
 
   gains_at_6 : Front (λ text. GrowsByFront call.bytes.before call.bytes.after text) → Gains call 6
-  gains_at_6 h = with_text call 6 h.0 h.2.0 refl (no_line call.files 6 (λ e. absurd cc) (λ e. absurd cc) (λ e. absurd cc)) h.1 h.2.1 (λ e. absurd cc)
+  gains_at_6 h = with_text call 6 h.0 h.2.0 refl (no_line call.files.before 6 (λ e. absurd cc) (λ e. absurd cc) (λ e. absurd cc)) h.1 h.2.1 (λ e. absurd cc)
 
   gains_at_5 : Line read_line → Gains call 5
   gains_at_5 h = with_line call 5 read_line refl (λ e. absurd cc) (record { usage = λ e. absurd cc; config = λ e. absurd cc; read = λ _. refl; none = λ e. absurd cc }) h
@@ -174,37 +174,45 @@ module _ (call : Call) where
   gains_of status report front config read none (inr (inr (inr (inr e)))) = at 12 status e (nothing call (none e))
 
   pub run_ends : (status : ℕ) → is_run call.words ≡ true → is_one_of ends_of_run status ≡ true
-      → IfSome call.files (λ told. (fault : PlanFault) → plan_in told ≡ Err fault → (status ≡ 3) ⊎ ((status ≡ 5) ⊎ (status ≡ 12)))
+      → IfSome call.files.before (λ told. (fault : PlanFault) → plan_in told ≡ Err fault → (status ≡ 3) ⊎ ((status ≡ 5) ⊎ (status ≡ 12)))
       → (status ≡ 5 → Rises call.file_faults) → (status ≡ 6 → Rises call.sink_faults)
       → (status ≡ 0 → Front (λ text. call.bytes.after ≡ grown call.bytes.before text))
       → (status ≡ 6 → Front (λ text. GrowsByFront call.bytes.before call.bytes.after text))
       → (status ≡ 3 → Config) → (status ≡ 5 → Line read_line) → (status ≡ 12 → call.bytes.after ≡ call.bytes.before)
+      → call.files.after ≡ call.files.before → call.file_faults.before ≤ call.file_faults.after → call.sink_faults.before ≤ call.sink_faults.after
       → Runs call status
-  run_ends status is known configuration read write report front config read_text none =
+  run_ends status is known configuration read write report front config read_text none same files_later sink_later =
       let end = end_of status known in
-      let refused : status ≡ 3 → Refused call.files = λ e. (let h = config e in refused_by call.files h.0 h.1 h.2 h.3) in
+      let refused : status ≡ 3 → Refused call.files.before = λ e. (let h = config e in refused_by call.files.before h.0 h.1 h.2 h.3) in
       record {
         known = is_known status end;
         words = (λ e. absurd (not_usage status end e), λ e. absurd cc);
         refused = refused;
-        configuration = IfSome_then call.files configuration (λ told h fault e _. h fault e);
+        configuration = IfSome_then call.files.before configuration (λ told h fault e _. h fault e);
         read = read;
         write = write;
-        done = λ no_read no_write _. done_of call.files status end refused (λ e. no_read (read e)) (λ e. no_write (write e));
+        done = λ no_read no_write _. done_of call.files.before status end refused (λ e. no_read (read e)) (λ e. no_write (write e));
         gains = gains_of status report front config read_text none end;
+        same_files = same;
+        files_later = files_later;
+        sink_later = sink_later;
       }
 
 -- words that are refused
 pub usage_ends : (call : Call) → is_run call.words ≡ false → GrowsByLine call.bytes.before call.bytes.after call.sink_faults.before call.sink_faults.after usage_line
+    → call.files.after ≡ call.files.before → call.file_faults.before ≤ call.file_faults.after → call.sink_faults.before ≤ call.sink_faults.after
     → Runs call 2
-usage_ends call is grows = record {
+usage_ends call is grows same files_later sink_later = record {
   known = refl;
   words = (λ _. is, λ _. refl);
   refused = λ e. absurd cc;
-  configuration = for_all call.files (λ told fault e taken. absurd cc);
+  configuration = for_all call.files.before (λ told fault e taken. absurd cc);
   read = λ e. absurd cc;
   write = λ e. absurd cc;
-  done = λ no_read no_write taken. for_all call.files (λ told plan e. absurd cc);
+  done = λ no_read no_write taken. for_all call.files.before (λ told plan e. absurd cc);
   gains = with_line call 2 usage_line refl (λ e. absurd cc)
       (record { usage = λ _. refl; config = λ e. absurd cc; read = λ e. absurd cc; none = λ e. absurd cc }) grows;
+  same_files = same;
+  files_later = files_later;
+  sink_later = sink_later;
 }

@@ -1,5 +1,5 @@
 -- What the top call answers, and what standard output gains.
-use Rattle.std.specs.Prelude.{◌≡◌, ◌⊎◌, ◌↔◌, ℕ, Bool, true, false, ◌==◌, List, [], ◌∷◌, ◌++◌, codes, take, Option, IfSome, Ok, Err, String, string_bytes}
+use Rattle.std.specs.Prelude.{◌≡◌, ◌⊎◌, ◌↔◌, ◌≤◌, ℕ, Bool, true, false, ◌==◌, List, [], ◌∷◌, ◌++◌, codes, take, Option, IfSome, Ok, Err, String, string_bytes}
 use Rattle.std.specs.List.{list_any}
 use Rattle.std.specs.Str.{bytes_eq}
 use Rattle.std.specs.declared.alloc.Global.{Global}
@@ -41,11 +41,11 @@ pub record Change (T : Type 0) : Type 0 where
   pub before : T
   pub after : T
 
--- What the caller of the top call sees of it: the words, the files where they are told, the counts of faults of the files
--- and of the sink, and the sink's bytes where they are told.
+-- What the caller of the top call sees of it: the words, the files and the sink's bytes where they are told, and the counts
+-- of faults of both.
 pub record Call : Type 0 where
   pub words : List (String Global)
-  pub files : Option (List (List ℕ × List ℕ))
+  pub files : Change (Option (List (List ℕ × List ℕ)))
   pub file_faults : Change ℕ
   pub sink_faults : Change ℕ
   pub bytes : Change (Option (List ℕ))
@@ -70,25 +70,30 @@ pub record Gains (call : Call) (status : ℕ) : Type 0 where
   pub text_bytes : ℕ
   pub line_bytes : ℕ
   pub gained : call.bytes.after ≡ grown call.bytes.before (take text_bytes text ++ take line_bytes line)
-  pub is_text : has_begun status ≡ true → IfSome call.files (λ told. output told ≡ Ok text)
+  pub is_text : has_begun status ≡ true → IfSome call.files.before (λ told. output told ≡ Ok text)
   pub whole_text : status ≡ 0 → take text_bytes text ≡ text
   pub no_text : has_begun status ≡ false → take text_bytes text ≡ []
-  pub is_line : IsFaultLine call.files status line
+  pub is_line : IsFaultLine call.files.before status line
   pub whole_line : (Rises call.sink_faults → ⊥) → take line_bytes line ≡ line
 
--- What the top call promises: which status comes when, and what the sink gained. Want of memory alone, 12, is free.
+-- What the top call promises: which status comes when, what the sink gained, and what stays as it was. Want of memory alone,
+-- 12, is free.
 pub record Runs (call : Call) (status : ℕ) : Type 0 where
   pub known : is_status status ≡ true
   -- 2 exactly where the words are refused
   pub words : (status ≡ 2) ↔ (is_run call.words ≡ false)
   -- 3 only where the configuration is missing or refused, and always there, unless its file can't be read
-  pub refused : status ≡ 3 → IfSome call.files (λ told. (fault : PlanFault) × (plan_in told ≡ Err fault))
-  pub configuration : IfSome call.files (λ told. (fault : PlanFault) → plan_in told ≡ Err fault → is_run call.words ≡ true
+  pub refused : status ≡ 3 → IfSome call.files.before (λ told. (fault : PlanFault) × (plan_in told ≡ Err fault))
+  pub configuration : IfSome call.files.before (λ told. (fault : PlanFault) → plan_in told ≡ Err fault → is_run call.words ≡ true
       → (status ≡ 3) ⊎ ((status ≡ 5) ⊎ (status ≡ 12)))
   -- 5 and 6 only where the files and the sink failed in this call
   pub read : status ≡ 5 → Rises call.file_faults
   pub write : status ≡ 6 → Rises call.sink_faults
   -- so words and a configuration that are taken end with 0, or for want of memory, where neither failed
   pub done : (Rises call.file_faults → ⊥) → (Rises call.sink_faults → ⊥) → is_run call.words ≡ true
-      → IfSome call.files (λ told. (plan : Plan) → plan_in told ≡ Ok plan → (status ≡ 0) ⊎ (status ≡ 12))
+      → IfSome call.files.before (λ told. (plan : Plan) → plan_in told ≡ Ok plan → (status ≡ 0) ⊎ (status ≡ 12))
   pub gains : Gains call status
+  -- what the files tell stays, and no count falls
+  pub same_files : call.files.after ≡ call.files.before
+  pub files_later : call.file_faults.before ≤ call.file_faults.after
+  pub sink_later : call.sink_faults.before ≤ call.sink_faults.after
