@@ -294,3 +294,110 @@ fn takes_many_recipients(rt: HostRuntime) -> Result<(), Fail> {
     assert_so(&rt, recipients.len() == 500, "all");
     Ok(())
 }
+
+/// Adds Ann in another case, Cara, and Cara in another case, and answers which were new.
+fn add_three(alloc: Global, recipients: &mut Recipients) -> Result<[bool; 3], Fail> {
+    let ann = add(alloc, recipients, "ANN@example.org")?;
+    let cara = add(alloc, recipients, "cara@example.net")?;
+    let again = add(alloc, recipients, "Cara@Example.net")?;
+    Ok([ann, cara, again])
+}
+
+#[test]
+fn adds_to_a_copy(rt: HostRuntime) -> Result<(), Fail> {
+    let mut recipients = copy_of_ann_and_bob(rt.alloc())?;
+    assert_so(&rt, finds_bob(rt.alloc(), &recipients)?, "Bob in the copy");
+    let are_new = add_three(rt.alloc(), &mut recipients)?;
+    assert_so(&rt, are_new == [false, true, false], "Cara is new, once");
+    assert_so(&rt, recipients.len() == 3, "three recipients");
+    assert_so(&rt, is_at(&recipients, 0, "Ann", "Example.org"), "Ann");
+    assert_so(&rt, is_at(&recipients, 2, "cara", "example.net"), "Cara");
+    Ok(())
+}
+
+/// Ann, Bob and Cara.
+fn three(alloc: Global) -> Result<Recipients, Fail> {
+    let mut recipients = ann_and_bob(alloc)?;
+    add(alloc, &mut recipients, "cara@example.net")?;
+    Ok(recipients)
+}
+
+/// Whether these are all, with a comma behind each.
+fn are_written_as(alloc: Global, recipients: &Recipients, want: &str) -> Result<bool, Fail> {
+    let mut text = Vec::new(alloc);
+    for address in recipients.as_slice() {
+        address.write_to(&mut text)?;
+        text.push(b',')?;
+    }
+    Ok(text.as_slice() == want.as_bytes())
+}
+
+/// Whether the mask takes and leaves these.
+fn is_split_into(
+    alloc: Global,
+    recipients: Recipients,
+    (mask, taken, left): (&[bool], &str, &str),
+) -> Result<bool, Fail> {
+    if mask.len() != recipients.len() {
+        return Ok(false);
+    }
+    let (first, second) = recipients.split(alloc, mask)?;
+    Ok(are_written_as(alloc, &first, taken)? && are_written_as(alloc, &second, left)?)
+}
+
+/// Masks over Ann, Bob and Cara, whom they take, and whom they leave.
+const SPLITS: [([bool; 3], &str, &str); 4] = [
+    (
+        [true, true, true],
+        "Ann@Example.org,bob@example.net,cara@example.net,",
+        "",
+    ),
+    (
+        [false, false, false],
+        "",
+        "Ann@Example.org,bob@example.net,cara@example.net,",
+    ),
+    (
+        [true, false, true],
+        "Ann@Example.org,cara@example.net,",
+        "bob@example.net,",
+    ),
+    (
+        [false, true, false],
+        "bob@example.net,",
+        "Ann@Example.org,cara@example.net,",
+    ),
+];
+
+#[test]
+fn splits_recipients(rt: HostRuntime) -> Result<(), Fail> {
+    let alloc = rt.alloc();
+    for (mask, taken, left) in SPLITS {
+        let want = (mask.as_slice(), taken, left);
+        assert_so(&rt, is_split_into(alloc, three(alloc)?, want)?, taken);
+        let copy = three(alloc)?.copy(alloc)?;
+        assert_so(&rt, is_split_into(alloc, copy, want)?, left);
+    }
+    Ok(())
+}
+
+/// The recipients but for Bob, who is the second of them.
+fn without_bob(alloc: Global) -> Result<Recipients, Fail> {
+    let recipients = three(alloc)?;
+    let mask = [true, false, true];
+    if mask.len() != recipients.len() {
+        return Ok(recipients);
+    }
+    Ok(recipients.split(alloc, &mask)?.0)
+}
+
+#[test]
+fn adds_to_a_part(rt: HostRuntime) -> Result<(), Fail> {
+    let mut recipients = without_bob(rt.alloc())?;
+    let are_new = add_three(rt.alloc(), &mut recipients)?;
+    assert_so(&rt, are_new == [false, false, false], "who is taken");
+    let is_new = add(rt.alloc(), &mut recipients, "bob@example.net")?;
+    assert_so(&rt, is_new, "Bob, who was left");
+    assert_so(&rt, is_at(&recipients, 2, "bob", "example.net"), "the end");
+    Ok(())
+}

@@ -1,3 +1,4 @@
 pub mod Cuts
 pub mod Different
+pub mod Masks
 pub mod Spellings

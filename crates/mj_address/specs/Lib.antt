@@ -1,3 +1,5 @@
 pub mod Grammar
+pub mod Kept
+pub mod Masks
 pub mod Reading
 pub mod Same

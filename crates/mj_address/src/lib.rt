@@ -10,12 +10,15 @@ mod domain;
 mod fault;
 mod fold_case;
 mod forms;
+mod kept;
 mod laws;
 mod recipients;
+mod sides;
 
 pub use address::Address;
 pub use domain::Domain;
 pub use fault::AddressFault;
+pub use fold_case::{hash as hash_without_case, same as same_without_case};
 pub use forms::judge_local;
 pub use laws::{read_is_spelled, spelled_is_read};
 pub use recipients::Recipients;

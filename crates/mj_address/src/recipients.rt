@@ -3,30 +3,35 @@ ghost use Rattle.std.specs.Prelude.{◌≡◌, ◌↔◌, ℕ, List, [], ◌∷�
 ghost use Rattle.std.specs.Iterator.Adapters.{IterYieldsInOrder};
 ghost use Rattle.std.specs.Option.{option_copied};
 ghost use Rattle.std.specs.Slice.Iter.{iter_rest};
+ghost use Rattle.mj_address.specs.Masks.{taken, left};
 ghost use Rattle.mj_address.specs.Same.{has_same, AreRecipients};
 
 use crate::address::Address;
+use crate::kept::Kept;
+use crate::sides::sift;
 use indexmap::IndexSet;
 use std::alloc::{AllocError, Global};
 use std::marker::Model;
 use std::slice::Iter;
 
 /// The recipients of a mail: addresses in the order of their first mention, no two the same. The one
-/// that came first keeps its spelling.
+/// that came first keeps its spelling. A copy and the parts of a split hash none of them until an
+/// address is added.
 #[derive(Debug, Drop)]
 pub struct Recipients {
-    addresses: IndexSet<Address>,
+    kept: Kept,
 }
 
 impl Model for Recipients {
     ghost use Rattle.std.specs.Prelude.{ℕ, List};
+    ghost use Rattle.mj_address.specs.Kept.{listed};
     ghost use Rattle.mj_address.specs.Same.{AreRecipients};
 
     ghost Value = { List (List ℕ × List ℕ) };
 
-    ghost view = { λ r. r.addresses.keys };
+    ghost view = { λ r. listed r.kept };
 
-    ghost invariant = { λ r. AreRecipients r.addresses.keys };
+    ghost invariant = { λ r. AreRecipients (listed r.kept) };
 }
 
 impl Recipients {
@@ -35,20 +40,21 @@ impl Recipients {
         ensures { result ≡ [] }
     {
         Recipients {
-            addresses: IndexSet::new(alloc),
+            kept: Kept::Hashed(IndexSet::new(alloc)),
         }
     }
 
     /// Adds the address at the end, and says whether it did: not where one that is the same stands,
-    /// which then keeps its place and its spelling. It costs one look-up by hash. Where memory runs
-    /// out the list stays as it was, and the address is dropped.
+    /// which then keeps its place and its spelling. It costs one look-up by hash; the first on a copy or
+    /// on a part of a split hashes all that are there. Where memory runs out the list stays as it was,
+    /// and the address is dropped.
     pub fn add(&mut self, address: Address) -> Result<bool, AllocError>
         ensures added { IfOk result (λ added. added ≡ not (has_same self.old address)) }
         ensures list { IfOk result (λ added. self.new ≡ (if added then self.old ++ address ∷ [] else self.old)) }
         ensures err { OnErr result (self.new ≡ self.old) }
     {
         let _form = address.local();
-        Ok(self.addresses.insert(address)?)
+        self.kept.add(address)
     }
 
     /// How many there are.
@@ -56,28 +62,29 @@ impl Recipients {
         ensures count { result ≡ length self.now }
         ensures form { AreRecipients self.now }
     {
-        self.addresses.len()
+        self.kept.as_slice().len()
     }
 
     /// Whether there is none.
     pub fn is_empty(&self) -> bool
         ensures { IsTrue result ↔ (self.now ≡ []) }
     {
-        self.addresses.is_empty()
+        self.kept.as_slice().is_empty()
     }
 
     /// The recipient at the place k, counted from 0, or `None` where there are not so many.
     pub fn get(&self, k: usize) -> Option<&Address>
         ensures { option_copied result ≡ slice_get self.now k }
     {
-        self.addresses.get_index(k)
+        self.kept.as_slice().get(k)
     }
 
-    /// Whether an address that is the same is among them. It costs one look-up by hash.
+    /// Whether an address that is the same is among them. It costs one look-up by hash, and goes over
+    /// the list where it is a copy or a part of a split.
     pub fn contains(&self, address: &Address) -> bool
         ensures { result ≡ has_same self.now address.now }
     {
-        self.addresses.contains(address)
+        self.kept.contains(address)
     }
 
     /// All of them in order, as a slice.
@@ -85,7 +92,7 @@ impl Recipients {
         ensures value { result.now ≡ self.now }
         ensures form { AreRecipients self.now }
     {
-        self.addresses.as_slice()
+        self.kept.as_slice()
     }
 
     /// All of them in order.
@@ -97,15 +104,44 @@ impl Recipients {
         self.as_slice().iter()
     }
 
-    /// An equal list, in the same order and spelled alike.
+    /// An equal list, in the same order and spelled alike. It takes memory once for the list and twice
+    /// for each address.
     pub fn copy(&self, alloc: Global) -> Result<Recipients, AllocError>
         ensures { IfOk result (λ recipients. recipients ≡ self.now) }
     {
-        let mut copies = Recipients::new(alloc);
-        for address in self.as_slice() {
-            let address = address.copy(alloc)?;
-            copies.add(address)?;
-        }
-        Ok(copies)
+        let addresses = copied(alloc, self.as_slice())?;
+        Ok(Recipients {
+            kept: Kept::Plain(addresses),
+        })
     }
+
+    /// Those at whose place the mask is true, and the others, both in order. The addresses are moved and
+    /// not copied. Where memory runs out all are dropped.
+    pub fn split(self, alloc: Global, mask: &[bool]) -> Result<(Recipients, Recipients), AllocError>
+        requires { length mask.now ≡ length self }
+        ensures taken { IfOk result (λ parts. parts.0 ≡ taken mask.now self) }
+        ensures left { IfOk result (λ parts. parts.1 ≡ left mask.now self) }
+    {
+        let Recipients { kept } = self;
+        let sides = sift(alloc, mask, kept.into_list(alloc)?)?;
+        Ok((
+            Recipients {
+                kept: Kept::Plain(sides.taken),
+            },
+            Recipients {
+                kept: Kept::Plain(sides.left),
+            },
+        ))
+    }
+}
+
+// Copies of the addresses, in order.
+fn copied(alloc: Global, addresses: &[Address]) -> Result<Vec<Address>, AllocError>
+    ensures { IfOk result (λ copies. copies.items ≡ addresses.now) }
+{
+    let mut copies = Vec::with_capacity(alloc, addresses.len())?;
+    for address in addresses {
+        copies.push(address.copy(alloc)?)?;
+    }
+    Ok(copies)
 }
