@@ -10,7 +10,7 @@ use mj_config_values::{
     value_at,
 };
 use mj_config_walk::{Refusal, Spool};
-use mj_fields::{Bytes, Items};
+use mj_plan::{Listed, User};
 use std::alloc::Global;
 use toml::{Table, Value};
 
@@ -41,7 +41,10 @@ fn owner_in(alloc: Global, table: &Table) -> Result<(Domain, Address), Refusal>
 }
 
 /// The hosts and the users that mails are delivered to here.
-fn locals_in(alloc: Global, table: &Table) -> Result<(Items<Domain>, Items<Bytes>), Refusal>
+fn locals_in(
+    alloc: Global,
+    table: &Table,
+) -> Result<(Listed<Domain>, Listed<User<'static>>), Refusal>
     ensures { Gives result (locals_in (table_view table.now)) }
 {
     let local_hosts = local_hosts_in(alloc, table)?;
@@ -70,16 +73,18 @@ fn postmaster_in(alloc: Global, table: &Table) -> Result<Address, Refusal>
     address(alloc, text(required(table, "postmaster")?)?)
 }
 
-fn local_hosts_in(alloc: Global, table: &Table) -> Result<Items<Domain>, Refusal>
+fn local_hosts_in(alloc: Global, table: &Table) -> Result<Listed<Domain>, Refusal>
     ensures { Gives result (needed (codes "local_hosts") (each_value domain) (table_view table.now)) }
 {
-    domains_in(alloc, texts(required(table, "local_hosts")?)?)
+    let hosts = domains_in(alloc, texts(required(table, "local_hosts")?)?)?;
+    Ok(Listed::new(alloc, hosts)?)
 }
 
-fn local_users_in(alloc: Global, table: &Table) -> Result<Items<Bytes>, Refusal>
+fn local_users_in(alloc: Global, table: &Table) -> Result<Listed<User<'static>>, Refusal>
     ensures { Gives result (needed (codes "local_users") (each_value local_part) (table_view table.now)) }
 {
-    local_parts_in(alloc, texts(required(table, "local_users")?)?)
+    let names = local_parts_in(alloc, texts(required(table, "local_users")?)?)?;
+    Ok(Listed::of_names(alloc, names)?)
 }
 
 fn start_in(table: &Table) -> Result<u64, Refusal>

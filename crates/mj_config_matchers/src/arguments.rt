@@ -1,8 +1,7 @@
 //! Arguments of matchers, each read to the condition that it makes.
 ghost use Rattle.std.specs.Prelude.{◌≡◌, ◌∷◌, [], Ok};
 ghost use Rattle.std.specs.Option.{option_copied};
-ghost use Rattle.mj_config_walk.specs.Values.{Gives, GivesBy, address, domain, formed};
-ghost use Rattle.mj_config_values.specs.Forms.{has_form};
+ghost use Rattle.mj_config_walk.specs.Values.{Gives, GivesBy, address, domain, formed, is_filled};
 ghost use Rattle.mj_config_walk.specs.Arguments.{attribute_value, bare, comparison, given, header, listed, relation, whole_text, words};
 
 use crate::numbers::digits;
@@ -10,9 +9,9 @@ use crate::words::next_word;
 use mj_address::{Address, Domain};
 use mj_config_values::{TextForm, addresses, cut, domains, few, formed, is, texts_formed};
 use mj_config_walk::{PlanKind, Refusal};
-use mj_fields::{Bytes, Items};
+use mj_fields::Bytes;
 use mj_head::trim_blanks;
-use mj_plan::{Condition, Relation};
+use mj_plan::{Condition, Listed, Relation, User};
 use std::alloc::Global;
 
 /// The condition, where no argument is given.
@@ -36,28 +35,25 @@ pub(crate) fn given(argument: Option<&[u8]>) -> Result<&[u8], Refusal>
 }
 
 /// A list of 1 to 100 addresses.
-pub(crate) fn listed_addresses(alloc: Global, text: &[u8]) -> Result<Items<Address>, Refusal>
+pub(crate) fn listed_addresses(alloc: Global, text: &[u8]) -> Result<Listed<Address>, Refusal>
     ensures { Gives result (listed address text.now) }
 {
-    few(addresses(alloc, text)?)
+    Ok(Listed::new(alloc, few(addresses(alloc, text)?)?)?)
 }
 
 /// A list of 1 to 100 domains.
-pub(crate) fn listed_domains(alloc: Global, text: &[u8]) -> Result<Items<Domain>, Refusal>
+pub(crate) fn listed_domains(alloc: Global, text: &[u8]) -> Result<Listed<Domain>, Refusal>
     ensures { Gives result (listed domain text.now) }
 {
-    few(domains(alloc, text)?)
+    Ok(Listed::new(alloc, few(domains(alloc, text)?)?)?)
 }
 
-/// A list of 1 to 100 texts of this form.
-pub(crate) fn listed_texts(
-    alloc: Global,
-    form: TextForm,
-    text: &[u8],
-) -> Result<Items<Bytes>, Refusal>
-    ensures { Gives result (listed (formed (has_form form)) text.now) }
+/// A list of 1 to 100 users, none of them empty.
+pub(crate) fn listed_users(alloc: Global, text: &[u8]) -> Result<Listed<User<'static>>, Refusal>
+    ensures { Gives result (listed (formed is_filled) text.now) }
 {
-    few(texts_formed(alloc, form, text)?)
+    let names = few(texts_formed(alloc, TextForm::Filled, text)?)?;
+    Ok(Listed::of_names(alloc, names)?)
 }
 
 /// A text, whatever it is.

@@ -6,7 +6,7 @@ ghost use Rattle.mj_config_walk.specs.Conditions.{argued_condition, condition, c
 
 use crate::arguments::{
     attribute_value, bare, comparison, given, header, listed_addresses, listed_domains,
-    listed_texts, whole_text,
+    listed_users, whole_text,
 };
 use crate::numbers::{count, size};
 use mj_config_values::{TextForm, cut, formed, is};
@@ -138,7 +138,7 @@ fn argued_condition(alloc: Global, name: Argued, text: &[u8]) -> Result<Conditio
     match name {
         Argued::RecipientIs => Ok(Condition::RecipientIs(listed_addresses(alloc, text)?)),
         Argued::HostIs => Ok(Condition::HostIs(listed_domains(alloc, text)?)),
-        Argued::UserIs => Ok(Condition::UserIs(listed_texts(alloc, TextForm::Filled, text)?)),
+        Argued::UserIs => Ok(Condition::UserIs(listed_users(alloc, text)?)),
         Argued::SenderIs => Ok(Condition::SenderIs(listed_addresses(alloc, text)?)),
         Argued::SenderHostIs => Ok(Condition::SenderHostIs(listed_domains(alloc, text)?)),
         Argued::SizeGreaterThan => Ok(Condition::SizeGreaterThan(size(text)?)),

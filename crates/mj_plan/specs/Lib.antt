@@ -1,3 +1,4 @@
 pub mod Forms
+pub mod Listed
 pub mod Lookups
 pub mod Sound

@@ -1,5 +1,6 @@
+use crate::{Listed, User};
 use mj_address::{Address, Domain};
-use mj_fields::{Bytes, Items};
+use mj_fields::Bytes;
 
 /// How two numbers stand to each other.
 #[derive(Clone, Copy, Debug, PartialEq, Eq)]
@@ -17,19 +18,19 @@ pub enum Condition {
     /// Always.
     All,
     /// The recipient is one of these.
-    RecipientIs(Items<Address>),
+    RecipientIs(Listed<Address>),
     /// The recipient's domain is a local host and its local part a local user.
     RecipientIsLocal,
     /// The recipient's domain is one of these.
-    HostIs(Items<Domain>),
+    HostIs(Listed<Domain>),
     /// The recipient's domain is a local host.
     HostIsLocal,
     /// The recipient's local part is one of these.
-    UserIs(Items<Bytes>),
+    UserIs(Listed<User<'static>>),
     /// The sender isn't null and is one of these.
-    SenderIs(Items<Address>),
+    SenderIs(Listed<Address>),
     /// The sender isn't null and its domain is one of these.
-    SenderHostIs(Items<Domain>),
+    SenderHostIs(Listed<Domain>),
     /// The sender is null.
     SenderIsNull,
     /// The message has more than so many bytes.

@@ -3,15 +3,19 @@
 
 mod condition;
 mod forms;
+mod listed;
 mod mailet;
 mod matcher;
 mod plan;
+mod user;
 
 pub use condition::{Condition, Relation};
 pub use forms::{
     GHOST, is_attribute_name, is_attribute_value, is_line, is_processor_name, is_reply_code,
     is_repository,
 };
+pub use listed::{Copied, Listed};
 pub use mailet::{MailetKind, Named};
 pub use matcher::MatchExpr;
 pub use plan::{MailetRoute, Mapping, MatchRoute, Plan, Processor, Step};
+pub use user::User;

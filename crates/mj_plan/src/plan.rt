@@ -2,7 +2,7 @@ ghost use Rattle.std.specs.Prelude.{◌≡◌};
 ghost use Rattle.std.specs.Option.{option_copied};
 ghost use Rattle.mj_plan.specs.Lookups.{processor_named, schedule_in, schedule_named};
 
-use crate::{MailetKind, MatchExpr};
+use crate::{Listed, MailetKind, MatchExpr, User};
 use mj_address::{Address, Domain};
 use mj_delays::Schedule;
 use mj_fields::{Bytes, Items};
@@ -13,8 +13,8 @@ pub struct Plan {
     /// The name by which this host speaks of itself.
     pub host_name: Domain,
     pub postmaster: Address,
-    pub local_hosts: Items<Domain>,
-    pub local_users: Items<Bytes>,
+    pub local_hosts: Listed<Domain>,
+    pub local_users: Listed<User<'static>>,
     /// The moment at which all mails are due first.
     pub start: u64,
     /// At so many hops a mail has looped.
