@@ -1,3 +1,4 @@
 pub mod AttributeLists
+pub mod Entries
 pub mod Numbers
 pub mod Trees

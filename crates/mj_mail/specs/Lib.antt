@@ -1,4 +1,5 @@
 pub mod Attributes
+pub mod Entry
 pub mod Mail
 pub mod Meaning
 pub mod Name

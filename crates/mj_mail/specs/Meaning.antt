@@ -1,6 +1,6 @@
 -- The meaning of mails: all facts about them and about the mails that they become, each with its place. It speaks of
 -- one mail at a time, and knows no queue, whatever program carries it.
-use Rattle.std.specs.Prelude.{ℕ, zero, suc, List, [], ◌∷◌, ◌++◌, map}
+use Rattle.std.specs.Prelude.{ℕ, zero, suc, List, [], ◌++◌, map}
 use Rattle.std.specs.List.{flat_map, enumerate_from}
 use Rattle.mj_mail.specs.declared.fact.Fact.{Fact}
 use Rattle.mj_mail.specs.declared.fact.Outcome.{Outcome}

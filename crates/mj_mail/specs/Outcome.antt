@@ -1,5 +1,5 @@
 -- Outcomes of a step: facts about a mail, and the mails that it becomes.
-use Rattle.std.specs.Prelude.{ℕ, ◌+◌, List, [], ◌∷◌, ◌++◌}
+use Rattle.std.specs.Prelude.{ℕ, ◌+◌, List, [], ◌∷◌}
 use Rattle.mj_mail.specs.declared.fact.Fact.{Fact}
 use Rattle.mj_mail.specs.declared.fact.Outcome.{Outcome}
 use Rattle.mj_mail.specs.declared.mail.Mail.{Mail}

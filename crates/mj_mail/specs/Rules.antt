@@ -57,3 +57,7 @@ is_storable (Dropped why recipients) = has_recipients recipients
 is_storable (FellOff processor recipients) = has_recipients recipients
 is_storable (Looped recipients) = has_recipients recipients
 is_storable Overrun = true
+
+-- a child has one to 500 recipients, and its body keeps the limit
+abbrev pub is_storable_child : Mail → Bool
+is_storable_child child = has_recipients child.recipients && is_small_body (body_len child.body)

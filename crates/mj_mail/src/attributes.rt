@@ -65,6 +65,14 @@ impl Attributes {
         Some((name.as_slice(), value.as_slice()))
     }
 
+    /// The pairs of a name and a value in order, as a slice.
+    pub fn as_slice(&self) -> &[(Bytes, Bytes)]
+        ensures value { result.now ≡ self.now }
+        ensures form { AreAttributes self.now }
+    {
+        self.pairs.as_slice()
+    }
+
     /// The value of this name; `None` exactly where there is none.
     pub fn get(&self, name: &[u8]) -> Option<&[u8]>
         ensures { option_copied result ≡ attribute_value name.now self.now }

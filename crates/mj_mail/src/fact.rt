@@ -1,4 +1,4 @@
-ghost use Rattle.std.specs.Prelude.{◌≡◌, ◌<◌, ◌^◌, length, IfOk};
+ghost use Rattle.std.specs.Prelude.{◌≡◌, IfOk};
 ghost use Rattle.mj_mail.specs.declared.fact.Fact.TheVariants.{Deposit, FellOff, Retry, Sent};
 ghost use Rattle.mj_mail.specs.Outcome.{nothing, one_child, one_fact, numbered};
 
@@ -209,7 +209,6 @@ impl Outcome {
 
     /// The same, where each child's name has its number at the end, from 1.
     pub fn numbered(self, alloc: Global) -> Result<Outcome, Memory>
-        requires { length self.children < 2 ^ 32 }
         ensures { IfOk result (λ outcome. outcome ≡ numbered self) }
     {
         let children = number_children(alloc, self.children)?;

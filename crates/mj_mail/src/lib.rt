@@ -17,7 +17,7 @@ pub use attribute_laws::{
 };
 pub use attributes::{Attributes, MAX_ATTRIBUTES};
 pub use fact::{Fact, Outcome, Why};
-pub use limits::{MAX_BODY, MAX_ERROR, MAX_HEAD, MAX_RECIPIENTS};
+pub use limits::{MAX_BODY, MAX_DONE, MAX_ERROR, MAX_HEAD, MAX_PAYLOAD, MAX_RECIPIENTS};
 pub use mail::{Body, Mail, NewMail, Stage, copy_envelope, copy_message, copy_sender};
 pub use name::{Name, name_text, put_number};
 pub use reply::Reply;

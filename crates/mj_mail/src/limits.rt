@@ -11,3 +11,9 @@ pub const MAX_HEAD: usize = 65_536;
 
 /// The most bytes of an error text.
 pub const MAX_ERROR: usize = 1_000;
+
+/// The most bytes of the entry that a journal keeps of a step.
+pub const MAX_DONE: u64 = 67_108_864;
+
+/// The most bytes of a payload of a journal.
+pub const MAX_PAYLOAD: u64 = 134_217_728;

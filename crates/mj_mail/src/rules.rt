@@ -1,13 +1,14 @@
 ghost use Rattle.std.specs.Prelude.{◌≡◌, ℕ, ◌+◌, ◌≤◌, ◌<◌, Bool, true, List, length, IfOk};
 ghost use Rattle.std.specs.List.{AllByRecursion, list_all};
 ghost use Rattle.mj_mail.specs.declared.fact.Outcome.{Outcome};
+ghost use Rattle.mj_mail.specs.declared.limits.TheConstants.{MAX_PAYLOAD};
 ghost use Rattle.mj_mail.specs.declared.mail.Body.TheVariants.{Original};
 ghost use Rattle.mj_mail.specs.declared.mail.Mail.{Mail};
 ghost use Rattle.mj_mail.specs.declared.mail.NewMail.{NewMail};
 ghost use Rattle.mj_mail.specs.declared.reply.Reply.{Reply};
-ghost use Rattle.mj_mail.specs.Mail.{body_len};
+ghost use Rattle.mj_mail.specs.Entry.{done_form};
 ghost use Rattle.mj_mail.specs.Name.{first_name};
-ghost use Rattle.mj_mail.specs.Rules.{AreNumbered, HasOwnBody, IsOwnBody, is_acceptable, is_small_body, is_storable};
+ghost use Rattle.mj_mail.specs.Rules.{AreNumbered, HasOwnBody, IsOwnBody, is_acceptable, is_storable, is_storable_child};
 
 use crate::{Mail, NewMail, Outcome, Reply};
 use mj_fields::{Items, Memory};
@@ -73,10 +74,14 @@ pub trait Rules {
     ghost facts_storable: { (rules : Self) (mail : Mail) → is_sound rules mail ≡ true
         → list_all is_storable (outcome_of rules mail (replies_to rules mail)).facts ≡ true };
 
-    ghost children_small: { (rules : Self) (mail : Mail) → is_sound rules mail ≡ true
-        → list_all (λ child. is_small_body (body_len child.body)) (outcome_of rules mail (replies_to rules mail)).children ≡ true };
+    ghost children_storable: { (rules : Self) (mail : Mail) → is_sound rules mail ≡ true
+        → list_all is_storable_child (outcome_of rules mail (replies_to rules mail)).children ≡ true };
 
     // No mail vanishes: each step has a fact or a child.
     ghost stays: { (rules : Self) (mail : Mail) → is_sound rules mail ≡ true
         → 1 ≤ length (outcome_of rules mail (replies_to rules mail)).facts + length (outcome_of rules mail (replies_to rules mail)).children };
+
+    // The entry that a journal keeps of a step is within the limit of a payload.
+    ghost done_small: { (rules : Self) (mail : Mail) → is_sound rules mail ≡ true
+        → length (done_form mail.name (replies_to rules mail) (outcome_of rules mail (replies_to rules mail))) ≤ MAX_PAYLOAD };
 }
