@@ -1,7 +1,7 @@
 -- What soundness says, part by part.
-use Rattle.std.proofs.Common.{◌≡◌, ◌∙◌, ℕ, ◌+◌, ◌-◌, ◌*◌, ◌<◌, ◌≤◌, Bool, true, false, List, [], ◌∷◌, ◌++◌, length, refl, sym, ap, arith, Option, Some, None}
-use Rattle.std.specs.Prelude.{nat_le, ◌&&◌, ◌||◌, ◌==◌, codes, if◌then◌else◌}
-use Rattle.std.specs.List.{find, list_all, list_any}
+use Rattle.std.proofs.Common.{◌≡◌, ◌∙◌, ℕ, ◌+◌, ◌≤◌, Bool, true, false, List, [], ◌∷◌, length, sym, ap, arith, Option, Some}
+use Rattle.std.specs.Prelude.{nat_le, ◌&&◌, if◌then◌else◌}
+use Rattle.std.specs.List.{list_all}
 use Rattle.std.specs.Str.{bytes_eq}
 use Rattle.std.proofs.lemmas.Bool.{and_parts}
 use Rattle.std.proofs.lemmas.Cmp.{nat_list_eq_equiv}
@@ -9,15 +9,13 @@ use Rattle.std.proofs.lemmas.Bool.Decides.{nat_tests}
 use Rattle.mj_head.specs.Head.{written}
 use Rattle.mj_mail.specs.declared.limits.TheConstants.{MAX_ERROR, MAX_HEAD}
 use Rattle.mj_mail.specs.declared.mail.Mail.{Mail}
-use Rattle.mj_mail.specs.declared.mail.Stage.{Stage}
-use Rattle.mj_mail.specs.declared.mail.Stage.TheVariants.{Process, Remote}
+use Rattle.mj_mail.specs.declared.mail.Stage.TheVariants.{Process}
 use Rattle.mj_mail.specs.Mail.{body_len}
 use Rattle.mj_mail.specs.Rules.{has_recipients, is_small_body}
 use Rattle.mj_plan.specs.declared.plan.Plan.{Plan}
 use Rattle.mj_plan.specs.declared.plan.Processor.{Processor}
 use Rattle.mj_plan.specs.Lookups.{processor_named}
-use Rattle.mj_plan.specs.Sound.{names_of}
-use Rattle.mj_container.specs.Sound.{are_attributes, is_sound, keeps_limits, latest, may_stand, measure, names_processor}
+use Rattle.mj_container.specs.Sound.{are_attributes, keeps_limits, latest, may_stand, measure, names_processor}
 
 pub both_true : (a b : Bool) → a ≡ true → b ≡ true → (a && b) ≡ true
 both_true a b p q = rw (p, q)
@@ -67,6 +65,8 @@ waits_sound plan state mail w =
 -- what a mail carries, part by part
 pub record Limits (mail : Mail) : Type 0 where
   pub recipients : has_recipients mail.recipients ≡ true
+  pub attributes : are_attributes mail.attributes ≡ true
+  pub error : nat_le (length mail.error) MAX_ERROR ≡ true
   pub head : nat_le (length (written mail.head)) MAX_HEAD ≡ true
   pub body : is_small_body (body_len mail.body) ≡ true
 
@@ -78,8 +78,18 @@ limits_of mail h =
     let attributes = are_attributes mail.attributes in
     let all = and_parts (has_recipients mail.recipients) (attributes && (error && (head && body))) h in
     let rest = and_parts attributes (error && (head && body)) all.1 in
-    let last = and_parts head body (and_parts error (head && body) rest.1).1 in
-    record { recipients = all.0; head = last.0; body = last.1 }
+    let last = and_parts error (head && body) rest.1 in
+    let message = and_parts head body last.1 in
+    record { recipients = all.0; attributes = rest.0; error = last.0; head = message.0; body = message.1 }
+
+pub limits_kept : (mail : Mail) → Limits mail → keeps_limits mail ≡ true
+limits_kept mail l =
+    let body = is_small_body (body_len mail.body) in
+    let head = nat_le (length (written mail.head)) MAX_HEAD in
+    let error = nat_le (length mail.error) MAX_ERROR in
+    let attributes = are_attributes mail.attributes in
+    both_true (has_recipients mail.recipients) (attributes && (error && (head && body))) l.recipients
+    (both_true attributes (error && (head && body)) l.attributes (both_true error (head && body) l.error (both_true head body l.head l.body)))
 
 -- ---- Processors by their names
 

@@ -1,237 +1,372 @@
--- What a step of a sound mail under a sound plan gives: mails that are sent to processors of the plan, and, where the
--- plan is built, at least one fact or mail.
-use Rattle.std.proofs.Common.{◌≡◌, ◌∙◌, ℕ, ◌+◌, ◌<◌, ◌≤◌, Bool, true, false, cond, not, List, [], ◌∷◌, ◌++◌, length, refl, sym, ap, arith, Option, Some, None}
-use Rattle.std.specs.Prelude.{nat_le, ◌&&◌, ◌||◌, if◌then◌else◌, codes}
-use Rattle.std.specs.List.{AllByRecursion, find, list_all, list_any}
+-- What a step of a sound mail under a sound plan gives: facts that keep the limits, and mails that are sent to processors
+-- of the plan.
+use Rattle.std.proofs.Common.{◌≡◌, ◌∙◌, ℕ, suc, ◌+◌, ◌<◌, ◌≤◌, Bool, true, false, not, List, [], ◌∷◌, ◌++◌, length, refl, sym, ap, subst, arith, length-append, Option, Some, None, Result, Ok, Err, ◌⊎◌, inl, inr}
+use Rattle.std.specs.Prelude.{nat_le, ◌&&◌, ◌||◌, if◌then◌else◌, codes, filter}
+use Rattle.std.specs.Fmt.{decimal}
+use Rattle.std.specs.List.{AllByRecursion, list_all}
 use Rattle.std.specs.Str.{bytes_eq}
 use Rattle.std.proofs.lemmas.Bool.{and_parts}
 use Rattle.std.proofs.lemmas.Bool.Decides.{nat_tests}
-use Rattle.mj_mail.specs.declared.fact.Fact.TheVariants.{Dropped, Looped}
+use Rattle.std.proofs.lemmas.Fmt.{length-decimal-le}
+use Rattle.mj_head.specs.Head.{written}
+use Rattle.mj_mail.specs.declared.fact.Fact.{Fact}
+use Rattle.mj_mail.specs.declared.fact.Fact.TheVariants.{Dropped, FellOff, Looped}
 use Rattle.mj_mail.specs.declared.fact.Outcome.{Outcome}
 use Rattle.mj_mail.specs.declared.fact.Why.TheVariants.{Discarded}
+use Rattle.mj_mail.specs.declared.limits.TheConstants.{MAX_ERROR, MAX_HEAD, MAX_RECIPIENTS}
+use Rattle.mj_mail.specs.declared.mail.Body.{Body}
+use Rattle.mj_mail.specs.declared.mail.Body.TheVariants.{Original, Made}
 use Rattle.mj_mail.specs.declared.mail.Mail.{Mail}
 use Rattle.mj_mail.specs.declared.mail.Stage.{Stage}
 use Rattle.mj_mail.specs.declared.mail.Stage.TheVariants.{Process, Remote}
-use Rattle.mj_mail.specs.Outcome.{one_child, one_fact}
-use Rattle.mj_head.specs.Head.{written}
-use Rattle.mj_mail.specs.declared.fact.Fact.{Fact}
-use Rattle.mj_mail.specs.declared.limits.TheConstants.{MAX_HEAD}
-use Rattle.mj_mail.specs.declared.mail.Body.{Body}
-use Rattle.mj_mail.specs.declared.mail.Body.TheVariants.{Original, Made}
-use Rattle.mj_mail.specs.Mail.{body_len}
+use Rattle.mj_mail.specs.Mail.{body_len, restrict}
+use Rattle.mj_mail.specs.Outcome.{nothing, one_child, one_fact}
 use Rattle.mj_mail.specs.Rules.{HasOwnBody, IsOwnBody, has_recipients, is_small_body, is_storable}
 use Rattle.mj_plan.specs.declared.mailet.MailetKind.{MailetKind}
 use Rattle.mj_plan.specs.declared.mailet.MailetKind.TheVariants as mailet
+use Rattle.mj_plan.specs.declared.plan.MailetRoute.{MailetRoute}
+use Rattle.mj_plan.specs.declared.plan.MailetRoute.TheVariants as on_mailet
+use Rattle.mj_plan.specs.declared.plan.MatchRoute.{MatchRoute}
+use Rattle.mj_plan.specs.declared.plan.MatchRoute.TheVariants as on_match
 use Rattle.mj_plan.specs.declared.plan.Plan.{Plan}
 use Rattle.mj_plan.specs.declared.plan.Processor.{Processor}
 use Rattle.mj_plan.specs.declared.plan.Step.{Step}
+use Rattle.mj_plan.specs.Forms.{has_length, is_name_byte, is_printable, is_processor_name}
 use Rattle.mj_plan.specs.Lookups.{processor_named}
-use Rattle.mj_plan.specs.Sound.{IsSound, is_mailet, is_mailet_route, is_match_route, is_matcher, is_processor, is_between, is_step, is_target, names_of}
-use Rattle.mj_container.specs.Built.{is_built, is_built_mailet, is_built_matcher, is_built_processor, is_built_step}
-use Rattle.mj_container.specs.Running.{drafts, run, run_in}
-use Rattle.mj_container.specs.Serving.{ghost_state, leave, sent_to, served}
-use Rattle.mj_container.specs.Sound.{names_processor}
-use Rattle.mj_container.proofs.Facts.{Limits, both_true, processor_passes, same_bytes}
+use Rattle.mj_plan.specs.Sound.{IsSound, is_mailet, is_mailet_route, is_match_route, is_matcher, is_processor, is_between, is_reserved, is_step, is_target, names_of}
+use Rattle.mj_container.specs.declared.service.Onward.{Onward}
+use Rattle.mj_container.specs.declared.service.Onward.TheVariants.{GoOn, Leave, End}
+use Rattle.mj_container.specs.declared.service.Served.{Served}
+use Rattle.mj_container.specs.declared.service.Unserved.{Unserved}
+use Rattle.mj_container.specs.Matching.{Mailbox, first_failed}
+use Rattle.mj_container.specs.Running.{both, drafts, failed, failed_at, gone, leave_failed, part, parted, run, run_in, served, settled, split}
+use Rattle.mj_container.specs.Serving.{deposit, ghost_state, leave, sent_to, serve}
+use Rattle.mj_container.specs.Sound.{keeps_limits, names_processor}
+use Rattle.mj_container.specs.Verdict.{Verdict, Leaves, Takes, by_route, judged, matcher_failed, verdict}
+use Rattle.mj_container.proofs.Facts.{both_true, limits_kept, limits_of, processor_passes}
+use Rattle.mj_container.proofs.Matchers.{few_failed}
+
+-- ---- Parts, children and facts
+
+-- a part of a mail, on its way through a processor
+pub record IsPart (mail part : Mail) : Type 0 where
+  pub name : part.name ≡ mail.name
+  pub body : part.body ≡ mail.body
+  pub hops : part.hops ≡ mail.hops
+  pub due : part.due ≡ mail.due
+  pub limits : keeps_limits part ≡ true
 
 -- a mail that a step makes of this one: it is sent to a processor of the plan
 pub record IsSent (plan : Plan) (mail child : Mail) : Type 0 where
   pub state : List ℕ
-  pub is : child ≡ sent_to state mail
+  pub stage : child.stage ≡ Process state
   pub named : names_processor plan state ≡ true
-  pub young : mail.hops < 1_000
+  pub name : child.name ≡ mail.name
+  pub body : IsOwnBody mail.body child.body
+  pub hops : child.hops ≡ mail.hops + 1
+  pub due : child.due ≡ mail.due
+  pub limits : keeps_limits child ≡ true
 
-leave_sent_by : (plan : Plan) (state : List ℕ) (mail : Mail) (b : Bool) → mail.hops < 1_000 → bytes_eq state ghost_state ≡ b → is_target (names_of plan.processors) state ≡ true
-    → AllByRecursion (IsSent plan mail) (if b then one_fact (Dropped Discarded mail.recipients) else one_child (sent_to state mail)).children
-leave_sent_by plan state mail true young e target = tt
-leave_sent_by plan state mail false young e target =
-    (record { state = state; is = refl; named = sym (ap (λ b. b || names_processor plan state) e) ∙ target; young = young }, tt)
+-- a fact that keeps the limits, and names no other body than the mail's
+pub record IsKept (mail : Mail) (fact : Fact) : Type 0 where
+  pub storable : is_storable fact ≡ true
+  pub own : HasOwnBody mail.body fact
 
-leave_sent : (plan : Plan) (state : List ℕ) (mail : Mail) → mail.hops < 1_000 → is_target (names_of plan.processors) state ≡ true → AllByRecursion (IsSent plan mail) (leave state mail).children
-leave_sent plan state mail young target = leave_sent_by plan state mail (bytes_eq state ghost_state) young refl target
+-- an outcome of such children and such facts
+pub record IsLawful (plan : Plan) (mail : Mail) (outcome : Outcome) : Type 0 where
+  pub children : AllByRecursion (IsSent plan mail) outcome.children
+  pub facts : AllByRecursion (IsKept mail) outcome.facts
 
-served_sent : (plan : Plan) (kind : MailetKind) (mail : Mail) → mail.hops < 1_000 → is_mailet (names_of plan.processors) kind ≡ true → AllByRecursion (IsSent plan mail) (served kind mail).children
-served_sent plan (mailet.ToProcessor processor) mail young h = leave_sent plan processor mail young h
-served_sent plan mailet.Null mail young h = leave_sent plan ghost_state mail young refl
-served_sent plan (mailet.SetMailAttribute attributes) mail young h = tt
-served_sent plan (mailet.RemoveMailAttribute names) mail young h = tt
-served_sent plan mailet.RemoveAllMailAttributes mail young h = tt
-served_sent plan (mailet.SetMimeHeader name value) mail young h = tt
-served_sent plan (mailet.RemoveMimeHeader names) mail young h = tt
-served_sent plan (mailet.MailAttributesToMimeHeaders mapping) mail young h = tt
-served_sent plan (mailet.AddSubjectPrefix prefix) mail young h = tt
-served_sent plan mailet.RecipientToLowerCase mail young h = tt
-served_sent plan mailet.PostmasterAlias mail young h = tt
-served_sent plan mailet.RecipientRewriteTable mail young h = tt
-served_sent plan (mailet.Forward to pass_through) mail young h = tt
-served_sent plan (mailet.Bounce message pass_through) mail young h = tt
-served_sent plan (mailet.NotifyPostmaster pass_through) mail young h = tt
-served_sent plan mailet.LocalDelivery mail young h = tt
-served_sent plan (mailet.ToRepository path pass_through) mail young h = tt
-served_sent plan (mailet.RemoteDelivery outgoing schedule gateway bounce_processor) mail young h = tt
-served_sent plan (mailet.Fail text) mail young h = tt
+all_append : {X : Type 0} (P : X → Type 0) (xs ys : List X) → AllByRecursion P xs → AllByRecursion P ys → AllByRecursion P (xs ++ ys)
+all_append P [] ys a b = b
+all_append P (x ∷ xs) ys a b = (a.0, all_append P xs ys a.1 b)
 
-mailet_of_step : (names : List (List ℕ)) (step : Step) → is_step names step ≡ true → is_mailet names step.mailet ≡ true
-mailet_of_step names step h =
-    let matched = is_matcher step.matcher && is_match_route names step.on_match in
-    let front = and_parts (matched && is_mailet names step.mailet) (is_mailet_route names step.on_mailet) h in
-    (and_parts matched (is_mailet names step.mailet) front.0).1
+own_body : (body : Body) → IsOwnBody body body
+own_body (Original number len) = refl
+own_body (Made bytes) = tt
 
-run_sent : (plan : Plan) (name : List ℕ) (steps : List Step) (mail : Mail) → mail.hops < 1_000 → list_all (is_step (names_of plan.processors)) steps ≡ true
-    → AllByRecursion (IsSent plan mail) (run name steps mail).children
-run_sent plan name [] mail young h = tt
-run_sent plan name (step ∷ steps) mail young h =
-    let names = names_of plan.processors in
-    let first = and_parts (is_step names step) (list_all (is_step names) steps) h in
-    served_sent plan step.mailet mail young (mailet_of_step names step first.0)
+le_of : (m n : ℕ) → nat_le m n ≡ true → m ≤ n
+le_of m n h = grind (arith, nat_tests, h)
 
-run_in_sent : (plan : Plan) (found : Option Processor) (mail : Mail) → mail.hops < 1_000 → ((p : Processor) → found ≡ Some p → is_processor (names_of plan.processors) p ≡ true)
-    → AllByRecursion (IsSent plan mail) (run_in found mail).children
-run_in_sent plan None mail young sound = tt
-run_in_sent plan (Some p) mail young sound =
-    run_sent plan p.name p.steps mail young (and_parts _ (list_all (is_step (names_of plan.processors)) p.steps) (sound p refl)).1
+of_le : (m n : ℕ) → m ≤ n → nat_le m n ≡ true
+of_le m n h = grind (arith, nat_tests, h)
 
--- a mail with fewer hops than the plan allows
+pub is_part : (mail : Mail) → keeps_limits mail ≡ true → IsPart mail mail
+is_part mail limits = record { name = refl; body = refl; hops = refl; due = refl; limits = limits }
+
+-- ---- Texts of failures
+
+shorter : (test : ℕ → Bool) (least most : ℕ) (text : List ℕ) → (has_length least most text && list_all test text) ≡ true → length text ≤ most
+shorter test least most text h =
+    let long = (and_parts (has_length least most text) (list_all test text) h).0 in
+    le_of (length text) most (and_parts (nat_le least (length text)) (nat_le (length text) most) long).1
+
+failed_short : (name : List ℕ) (number : ℕ) (reason : List ℕ) → length name ≤ 64 → number ≤ 200 → length reason ≤ 700 → length (failed_at name number reason) ≤ 1_000
+failed_short name number reason a b c =
+    let digits : length (decimal number) ≤ 3 = length-decimal-le 3 number (omega arith) (omega arith) (omega arith) in
+    let e1 = length-append (codes "processor ") name in
+    let e2 = length-append (codes "processor " ++ name) (codes " step ") in
+    let e3 = length-append (codes "processor " ++ name ++ codes " step ") (decimal number) in
+    let e4 = length-append (codes "processor " ++ name ++ codes " step " ++ decimal number) (codes ": ") in
+    let e5 = length-append (codes "processor " ++ name ++ codes " step " ++ decimal number ++ codes ": ") reason in
+    omega arith
+
+matcher_failed_short : (condition : ℕ) → condition ≤ 100 → length (matcher_failed condition) ≤ 700
+matcher_failed_short condition h =
+    let digits : length (decimal condition) ≤ 3 = length-decimal-le 3 condition (omega arith) (omega arith) (omega arith) in
+    let e = length-append (codes "matcher failed at condition ") (decimal condition) in
+    omega arith
+
+-- ---- Fewer recipients
+
+filter_fewer_by : (test : Mailbox → Bool) (r : Mailbox) (rs : List Mailbox) (b : Bool) → length (filter test rs) ≤ length rs
+    → length (if b then r ∷ filter test rs else filter test rs) ≤ suc (length rs)
+filter_fewer_by test r rs true h = omega arith
+filter_fewer_by test r rs false h = omega arith
+
+filter_fewer : (test : Mailbox → Bool) (rs : List Mailbox) → length (filter test rs) ≤ length rs
+filter_fewer test [] = omega arith
+filter_fewer test (r ∷ rs) = filter_fewer_by test r rs (test r) (filter_fewer test rs)
+
+-- ---- What becomes of a part
+
+module _ (plan : Plan) (mail : Mail) where
+  both_lawful : (a b : Outcome) → IsLawful plan mail a → IsLawful plan mail b → IsLawful plan mail (both a b)
+  both_lawful a b la lb = record {
+    children = all_append (IsSent plan mail) a.children b.children la.children lb.children;
+    facts = all_append (IsKept mail) a.facts b.facts la.facts lb.facts;
+  }
+
+  nothing_lawful : IsLawful plan mail nothing
+  nothing_lawful = record { children = tt; facts = tt }
+
+  named_lawful : (fact : Fact) → is_storable fact ≡ true → HasOwnBody mail.body fact → IsLawful plan mail (one_fact fact)
+  named_lawful fact storable own = record { children = tt; facts = (record { storable = storable; own = own }, tt) }
+
+  abbrev IsTarget : List ℕ → Type 0
+  IsTarget state = is_target (names_of plan.processors) state ≡ true
+
+  -- ---- Leaving
+
+  leave_lawful_by : (state : List ℕ) (part : Mail) (b : Bool) → IsPart mail part → bytes_eq state ghost_state ≡ b → IsTarget state
+      → IsLawful plan mail (if b then one_fact (Dropped Discarded part.recipients) else one_child (sent_to state part))
+  leave_lawful_by state part true p e target = named_lawful (Dropped Discarded part.recipients) (limits_of part p.limits).recipients tt
+  leave_lawful_by state part false p e target = record {
+    children = (
+      record {
+        state = state;
+        stage = refl;
+        named = sym (ap (λ b. b || names_processor plan state) e) ∙ target;
+        name = p.name;
+        body = subst (λ body. IsOwnBody mail.body body) (sym p.body) (own_body mail.body);
+        hops = ap (λ h. h + 1) p.hops;
+        due = p.due;
+        limits = p.limits;
+      },
+      tt,
+    );
+    facts = tt;
+  }
+
+  leave_lawful : (state : List ℕ) (part : Mail) → IsPart mail part → IsTarget state → IsLawful plan mail (leave state part)
+  leave_lawful state part p target = leave_lawful_by state part (bytes_eq state ghost_state) p refl target
+
+  -- a part with the text of a failure
+  failed_part : (part : Mail) (text : List ℕ) → IsPart mail part → length text ≤ 1_000 → IsPart mail (record part { error = text })
+  failed_part part text p short =
+      let l = limits_of part p.limits in
+      record {
+        name = p.name;
+        body = p.body;
+        hops = p.hops;
+        due = p.due;
+        limits = limits_kept (record part { error = text }) (record { recipients = l.recipients; attributes = l.attributes; error = of_le (length text) MAX_ERROR short; head = l.head; body = l.body });
+      }
+
+  -- a part of a part
+  restricted_part : (part : Mail) (rs : List Mailbox) → IsPart mail part → has_recipients rs ≡ true → IsPart mail (restrict part rs)
+  restricted_part part rs p some =
+      let l = limits_of part p.limits in
+      record {
+        name = p.name;
+        body = p.body;
+        hops = p.hops;
+        due = p.due;
+        limits = limits_kept (restrict part rs) (record { recipients = some; attributes = l.attributes; error = l.error; head = l.head; body = l.body });
+      }
+
+  filled : (whole : Mail) (r : Mailbox) (rs : List Mailbox) → IsPart mail whole → length (r ∷ rs) ≤ length whole.recipients → has_recipients (r ∷ rs) ≡ true
+  filled whole r rs p fewer =
+      let l = limits_of whole p.limits in
+      let all = le_of (length whole.recipients) MAX_RECIPIENTS (and_parts (nat_le 1 (length whole.recipients)) (nat_le (length whole.recipients) MAX_RECIPIENTS) l.recipients).1 in
+      both_true (nat_le 1 (length (r ∷ rs))) (nat_le (length (r ∷ rs)) MAX_RECIPIENTS) (of_le 1 (length (r ∷ rs)) (omega arith)) (of_le (length (r ∷ rs)) MAX_RECIPIENTS (omega arith))
+
+  module _ (name : List ℕ) (named : length name ≤ 64) where
+    leave_failed_lawful : (number : ℕ) (reason state : List ℕ) (part : Mail) → number ≤ 200 → length reason ≤ 700 → IsPart mail part → IsTarget state
+        → IsLawful plan mail (leave_failed name number reason state part)
+    leave_failed_lawful number reason state part few short p target =
+        leave_lawful state (record part { error = failed_at name number reason }) (failed_part part (failed_at name number reason) p (failed_short name number reason named few short)) target
+
+    -- ---- A mail that is served
+
+    abbrev IsOnward : Onward → Type 0
+    IsOnward (GoOn part) = IsPart mail part
+    IsOnward (Leave part state) = IsPart mail part × IsTarget state
+    IsOnward End = Unit {0}
+
+    abbrev IsService : Result Served Unserved → Type 0
+    IsService (Ok served) = IsLawful plan mail (record { facts = served.facts; children = served.children }) × IsOnward served.onward
+    IsService (Err unserved) = IsPart mail unserved.mail × (length unserved.text ≤ 700)
+
+    abbrev IsMailet : MailetKind → Type 0
+    IsMailet kind = is_mailet (names_of plan.processors) kind ≡ true
+
+    ended : IsService (Ok (record { facts = []; children = []; onward = End }))
+    ended = (nothing_lawful, tt)
+
+    deposited : (path : List ℕ) (part : Mail) → IsPart mail part → IsService (Ok (record { facts = deposit path part ∷ []; children = []; onward = End }))
+    deposited path part p =
+        let l = limits_of part p.limits in
+        let storable : is_storable (deposit path part) ≡ true =
+        both_true (has_recipients part.recipients) (nat_le (length (written part.head)) MAX_HEAD && is_small_body (body_len part.body)) l.recipients
+        (both_true (nat_le (length (written part.head)) MAX_HEAD) (is_small_body (body_len part.body)) l.head l.body) in
+        (named_lawful (deposit path part) storable (subst (λ body. IsOwnBody mail.body body) (sym p.body) (own_body mail.body)), tt)
+
+    serve_lawful : (kind : MailetKind) (part : Mail) → IsPart mail part → IsMailet kind → IsService (serve plan kind part)
+    serve_lawful (mailet.ToProcessor processor) part p h = (nothing_lawful, (p, h))
+    serve_lawful mailet.Null part p h = (nothing_lawful, (p, refl))
+    serve_lawful (mailet.SetMailAttribute attributes) part p h = ended
+    serve_lawful (mailet.RemoveMailAttribute names) part p h = ended
+    serve_lawful mailet.RemoveAllMailAttributes part p h = ended
+    serve_lawful (mailet.SetMimeHeader header value) part p h = ended
+    serve_lawful (mailet.RemoveMimeHeader names) part p h = ended
+    serve_lawful (mailet.MailAttributesToMimeHeaders mapping) part p h = ended
+    serve_lawful (mailet.AddSubjectPrefix prefix) part p h = ended
+    serve_lawful mailet.RecipientToLowerCase part p h = ended
+    serve_lawful mailet.PostmasterAlias part p h = ended
+    serve_lawful mailet.RecipientRewriteTable part p h = ended
+    serve_lawful (mailet.Forward to pass_through) part p h = ended
+    serve_lawful (mailet.Bounce message pass_through) part p h = ended
+    serve_lawful (mailet.NotifyPostmaster pass_through) part p h = ended
+    serve_lawful mailet.LocalDelivery part p h = ended
+    serve_lawful (mailet.ToRepository path pass_through) part p h = deposited path part p
+    serve_lawful (mailet.RemoteDelivery outgoing schedule gateway bounce_processor) part p h = ended
+    serve_lawful (mailet.Fail text) part p h = let short = shorter is_printable 1 512 text h in (p, omega arith)
+
+    module _ (number : ℕ) (few : number ≤ 200) (on : Mail → Outcome) (on_lawful : (part : Mail) → IsPart mail part → IsLawful plan mail (on part)) where
+      gone_lawful : (onward : Onward) → IsOnward onward → IsLawful plan mail (gone on onward)
+      gone_lawful (GoOn part) h = on_lawful part h
+      gone_lawful (Leave part state) h = leave_lawful state part h.0 h.1
+      gone_lawful End h = nothing_lawful
+
+      failed_lawful : (route : MailetRoute) (unserved : Unserved) → is_mailet_route (names_of plan.processors) route ≡ true → IsPart mail unserved.mail → length unserved.text ≤ 700
+          → IsLawful plan mail (failed route name number on unserved)
+      failed_lawful on_mailet.Ignore unserved r p short = on_lawful unserved.mail p
+      failed_lawful (on_mailet.To state) unserved r p short = leave_failed_lawful number unserved.text state unserved.mail few short p r
+
+      settled_lawful : (route : MailetRoute) (service : Result Served Unserved) → is_mailet_route (names_of plan.processors) route ≡ true → IsService service
+          → IsLawful plan mail (settled route name number on service)
+      settled_lawful route (Ok served) r h = both_lawful (record { facts = served.facts; children = served.children }) (gone on served.onward) h.0 (gone_lawful served.onward h.1)
+      settled_lawful route (Err unserved) r h = failed_lawful route unserved r h.0 h.1
+
+      -- ---- A mail that is split
+
+      part_lawful : (whole : Mail) (rs : List Mailbox) → IsPart mail whole → length rs ≤ length whole.recipients → IsLawful plan mail (part on whole rs)
+      part_lawful whole [] p fewer = nothing_lawful
+      part_lawful whole (r ∷ rs) p fewer = on_lawful (restrict whole (r ∷ rs)) (restricted_part whole (r ∷ rs) p (filled whole r rs p fewer))
+
+      served_lawful : (step : Step) (whole : Mail) → IsPart mail whole → IsMailet step.mailet → is_mailet_route (names_of plan.processors) step.on_mailet ≡ true
+          → IsLawful plan mail (served plan name number step on whole)
+      served_lawful step whole p m r = settled_lawful step.on_mailet (serve plan step.mailet whole) r (serve_lawful step.mailet whole p m)
+
+      parted_lawful : (step : Step) (whole : Mail) (hits others : List Mailbox) → IsPart mail whole → IsMailet step.mailet → is_mailet_route (names_of plan.processors) step.on_mailet ≡ true
+          → length hits ≤ length whole.recipients → length others ≤ length whole.recipients → IsLawful plan mail (parted (served plan name number step on) on whole hits others)
+      parted_lawful step whole [] others p m r fewer_hits fewer_others = on_lawful whole p
+      parted_lawful step whole (q ∷ hits) others p m r fewer_hits fewer_others =
+          both_lawful (served plan name number step on (restrict whole (q ∷ hits))) (part on whole others)
+          (served_lawful step (restrict whole (q ∷ hits)) (restricted_part whole (q ∷ hits) p (filled whole q hits p fewer_hits)) m r)
+          (part_lawful whole others p fewer_others)
+
+      -- a verdict sends a mail to a processor of the plan alone, and says why in a short text
+      abbrev IsVerdict : Verdict → Type 0
+      IsVerdict (Leaves state reason) = IsTarget state × (length reason ≤ 700)
+      IsVerdict (Takes test) = Unit {0}
+
+      split_lawful : (step : Step) (whole : Mail) (v : Verdict) → IsPart mail whole → IsMailet step.mailet → is_mailet_route (names_of plan.processors) step.on_mailet ≡ true → IsVerdict v
+          → IsLawful plan mail (split plan name number step on whole v)
+      split_lawful step whole (Leaves state reason) p m r v = leave_failed_lawful number reason state whole few v.1 p v.0
+      split_lawful step whole (Takes test) p m r v =
+          parted_lawful step whole (filter test whole.recipients) (filter (λ q. not (test q)) whole.recipients) p m r
+          (filter_fewer test whole.recipients) (filter_fewer (λ q. not (test q)) whole.recipients)
+
+      routed : (route : MatchRoute) (condition : ℕ) → condition ≤ 100 → is_match_route (names_of plan.processors) route ≡ true → IsVerdict (by_route route condition)
+      routed on_match.NoMatch condition few r = tt
+      routed on_match.MatchAll condition few r = tt
+      routed (on_match.To state) condition few r = (r, matcher_failed_short condition few)
+
+      judged_lawful : (step : Step) (whole : Mail) (found : Option ℕ) → ((k : ℕ) → found ≡ Some k → k ≤ 100) → is_match_route (names_of plan.processors) step.on_match ≡ true
+          → IsVerdict (judged plan step whole found)
+      judged_lawful step whole None small r = tt
+      judged_lawful step whole (Some condition) small r = routed step.on_match condition (small condition refl) r
+
+      stepped_lawful : (step : Step) (whole : Mail) → IsPart mail whole → is_step (names_of plan.processors) step ≡ true
+          → IsLawful plan mail (split plan name number step on whole (verdict plan step whole))
+      stepped_lawful step whole p h =
+          let names = names_of plan.processors in
+          let front = is_matcher step.matcher && is_match_route names step.on_match in
+          let all = and_parts (front && is_mailet names step.mailet) (is_mailet_route names step.on_mailet) h in
+          let most = and_parts front (is_mailet names step.mailet) all.0 in
+          let first = and_parts (is_matcher step.matcher) (is_match_route names step.on_match) most.0 in
+          split_lawful step whole (verdict plan step whole) p most.1 all.1
+          (judged_lawful step whole (first_failed whole step.matcher) (λ k e. few_failed whole step.matcher k first.0 e) first.1)
+
+    run_lawful : (number : ℕ) (steps : List Step) (whole : Mail) → number + length steps ≤ 201 → list_all (is_step (names_of plan.processors)) steps ≡ true → IsPart mail whole
+        → IsLawful plan mail (run plan name number steps whole)
+    run_lawful number [] whole few h p = named_lawful (FellOff name whole.recipients) (limits_of whole p.limits).recipients tt
+    run_lawful number (step ∷ steps) whole few h p =
+        let all = and_parts (is_step (names_of plan.processors) step) (list_all (is_step (names_of plan.processors)) steps) h in
+        stepped_lawful number (omega arith) (run plan name (number + 1) steps)
+        (λ part q. run_lawful (number + 1) steps part (omega arith) all.1 q) step whole p all.0
+
+  run_in_lawful : (found : Option Processor) → keeps_limits mail ≡ true → ((p : Processor) → found ≡ Some p → is_processor (names_of plan.processors) p ≡ true)
+      → IsLawful plan mail (run_in plan found mail)
+  run_in_lawful None limits sound = nothing_lawful
+  run_in_lawful (Some p) limits sound =
+      let names = names_of plan.processors in
+      let formed = is_processor_name p.name && not (is_reserved p.name) in
+      let all = and_parts (formed && nat_le (length p.steps) 200) (list_all (is_step names) p.steps) (sound p refl) in
+      let front = and_parts formed (nat_le (length p.steps) 200) all.0 in
+      let named = shorter is_name_byte 1 64 p.name (and_parts (is_processor_name p.name) (not (is_reserved p.name)) front.0).0 in
+      let few = le_of (length p.steps) 200 front.1 in
+      run_lawful p.name named 1 p.steps mail (omega arith) all.1 (is_part mail limits)
+
+  drafts_lawful_by : (state : List ℕ) → IsSound plan → keeps_limits mail ≡ true → (b : Bool)
+      → IsLawful plan mail (if b then one_fact (Looped mail.recipients) else run_in plan (processor_named state plan.processors) mail)
+  drafts_lawful_by state sound limits true = named_lawful (Looped mail.recipients) (limits_of mail limits).recipients tt
+  drafts_lawful_by state sound limits false =
+      run_in_lawful (processor_named state plan.processors) limits
+      (λ p found. processor_passes (is_processor (names_of plan.processors)) state plan.processors p found sound.processors)
+
+  pub drafts_lawful : (stage : Stage) → IsSound plan → keeps_limits mail ≡ true → IsLawful plan mail (drafts plan stage mail)
+  drafts_lawful (Process state) sound limits = drafts_lawful_by state sound limits (nat_le plan.max_hops mail.hops)
+  drafts_lawful (Remote delivery host attempt) sound limits = nothing_lawful
+
+-- ---- Only a mail with fewer hops than the plan allows has children
+
 young_of : (most hops : ℕ) → is_between 1 1_000 most ≡ true → nat_le most hops ≡ false → hops < 1_000
 young_of most hops few more =
     let within = (and_parts (nat_le 1 most) (nat_le most 1_000) few).1 in
     grind (arith, nat_tests, within, more)
 
-drafts_sent_by : (plan : Plan) (state : List ℕ) (mail : Mail) → IsSound plan → (b : Bool) → nat_le plan.max_hops mail.hops ≡ b
-    → AllByRecursion (IsSent plan mail) (if b then one_fact (Looped mail.recipients) else run_in (processor_named state plan.processors) mail).children
-drafts_sent_by plan state mail sound true e = tt
-drafts_sent_by plan state mail sound false e =
-    run_in_sent plan (processor_named state plan.processors) mail (young_of plan.max_hops mail.hops sound.max_hops e)
-    (λ p found. processor_passes (is_processor (names_of plan.processors)) state plan.processors p found sound.processors)
+-- it has no children, or so few hops
+abbrev pub IsYoung : Mail → Outcome → Type 0
+IsYoung mail outcome = (outcome.children ≡ []) ⊎ (mail.hops < 1_000)
 
-pub drafts_sent : (plan : Plan) (stage : Stage) (mail : Mail) → IsSound plan → AllByRecursion (IsSent plan mail) (drafts plan stage mail).children
-drafts_sent plan (Process state) mail sound = drafts_sent_by plan state mail sound (nat_le plan.max_hops mail.hops) refl
-drafts_sent plan (Remote delivery host attempt) mail sound = tt
+drafts_young_by : (plan : Plan) (state : List ℕ) (mail : Mail) → IsSound plan → (b : Bool) → nat_le plan.max_hops mail.hops ≡ b
+    → IsYoung mail (if b then one_fact (Looped mail.recipients) else run_in plan (processor_named state plan.processors) mail)
+drafts_young_by plan state mail sound true e = inl refl
+drafts_young_by plan state mail sound false e = inr (young_of plan.max_hops mail.hops sound.max_hops e)
 
--- ---- Facts: each keeps the limits, and names no other body than the mail's
-
-pub record IsKept (mail : Mail) (fact : Fact) : Type 0 where
-  pub storable : is_storable fact ≡ true
-  pub own : HasOwnBody mail.body fact
-
-pub own_body : (body : Body) → IsOwnBody body body
-own_body (Original number len) = refl
-own_body (Made bytes) = tt
-
-leave_kept_by : (state : List ℕ) (mail : Mail) (b : Bool) → Limits mail
-    → AllByRecursion (IsKept mail) (if b then one_fact (Dropped Discarded mail.recipients) else one_child (sent_to state mail)).facts
-leave_kept_by state mail true limits = (record { storable = limits.recipients; own = tt }, tt)
-leave_kept_by state mail false limits = tt
-
-leave_kept : (state : List ℕ) (mail : Mail) → Limits mail → AllByRecursion (IsKept mail) (leave state mail).facts
-leave_kept state mail limits = leave_kept_by state mail (bytes_eq state ghost_state) limits
-
-served_kept : (kind : MailetKind) (mail : Mail) → Limits mail → AllByRecursion (IsKept mail) (served kind mail).facts
-served_kept (mailet.ToProcessor processor) mail limits = leave_kept processor mail limits
-served_kept mailet.Null mail limits = leave_kept ghost_state mail limits
-served_kept (mailet.SetMailAttribute attributes) mail limits = tt
-served_kept (mailet.RemoveMailAttribute names) mail limits = tt
-served_kept mailet.RemoveAllMailAttributes mail limits = tt
-served_kept (mailet.SetMimeHeader name value) mail limits = tt
-served_kept (mailet.RemoveMimeHeader names) mail limits = tt
-served_kept (mailet.MailAttributesToMimeHeaders mapping) mail limits = tt
-served_kept (mailet.AddSubjectPrefix prefix) mail limits = tt
-served_kept mailet.RecipientToLowerCase mail limits = tt
-served_kept mailet.PostmasterAlias mail limits = tt
-served_kept mailet.RecipientRewriteTable mail limits = tt
-served_kept (mailet.Forward to pass_through) mail limits = tt
-served_kept (mailet.Bounce message pass_through) mail limits = tt
-served_kept (mailet.NotifyPostmaster pass_through) mail limits = tt
-served_kept mailet.LocalDelivery mail limits = tt
-served_kept (mailet.ToRepository path pass_through) mail limits = (
-  record {
-    storable = both_true (has_recipients mail.recipients) (nat_le (length (written mail.head)) MAX_HEAD && is_small_body (body_len mail.body)) limits.recipients
-        (both_true (nat_le (length (written mail.head)) MAX_HEAD) (is_small_body (body_len mail.body)) limits.head limits.body);
-    own = own_body mail.body;
-  },
-  tt,
-)
-served_kept (mailet.RemoteDelivery outgoing schedule gateway bounce_processor) mail limits = tt
-served_kept (mailet.Fail text) mail limits = tt
-
-run_kept : (name : List ℕ) (steps : List Step) (mail : Mail) → Limits mail → AllByRecursion (IsKept mail) (run name steps mail).facts
-run_kept name [] mail limits = (record { storable = limits.recipients; own = tt }, tt)
-run_kept name (step ∷ steps) mail limits = served_kept step.mailet mail limits
-
-run_in_kept : (found : Option Processor) (mail : Mail) → Limits mail → AllByRecursion (IsKept mail) (run_in found mail).facts
-run_in_kept None mail limits = tt
-run_in_kept (Some p) mail limits = run_kept p.name p.steps mail limits
-
-drafts_kept_by : (found : Option Processor) (mail : Mail) (b : Bool) → Limits mail
-    → AllByRecursion (IsKept mail) (if b then one_fact (Looped mail.recipients) else run_in found mail).facts
-drafts_kept_by found mail true limits = (record { storable = limits.recipients; own = tt }, tt)
-drafts_kept_by found mail false limits = run_in_kept found mail limits
-
-pub drafts_kept : (plan : Plan) (stage : Stage) (mail : Mail) → Limits mail → AllByRecursion (IsKept mail) (drafts plan stage mail).facts
-drafts_kept plan (Process state) mail limits = drafts_kept_by (processor_named state plan.processors) mail (nat_le plan.max_hops mail.hops) limits
-drafts_kept plan (Remote delivery host attempt) mail limits = tt
-
--- ---- No mail vanishes: a step that is built has a fact or a child
-
-abbrev pub parts_of : Outcome → ℕ
-parts_of outcome = length outcome.facts + length outcome.children
-
-leave_some_by : (state : List ℕ) (mail : Mail) (b : Bool) → 1 ≤ parts_of (if b then one_fact (Dropped Discarded mail.recipients) else one_child (sent_to state mail))
-leave_some_by state mail true = omega arith
-leave_some_by state mail false = omega arith
-
-leave_some : (state : List ℕ) (mail : Mail) → 1 ≤ parts_of (leave state mail)
-leave_some state mail = leave_some_by state mail (bytes_eq state ghost_state)
-
-served_some : (kind : MailetKind) (mail : Mail) → is_built_mailet kind ≡ true → 1 ≤ parts_of (served kind mail)
-served_some (mailet.ToProcessor processor) mail h = leave_some processor mail
-served_some mailet.Null mail h = leave_some ghost_state mail
-served_some (mailet.SetMailAttribute attributes) mail h = cc
-served_some (mailet.RemoveMailAttribute names) mail h = cc
-served_some mailet.RemoveAllMailAttributes mail h = cc
-served_some (mailet.SetMimeHeader name value) mail h = cc
-served_some (mailet.RemoveMimeHeader names) mail h = cc
-served_some (mailet.MailAttributesToMimeHeaders mapping) mail h = cc
-served_some (mailet.AddSubjectPrefix prefix) mail h = cc
-served_some mailet.RecipientToLowerCase mail h = cc
-served_some mailet.PostmasterAlias mail h = cc
-served_some mailet.RecipientRewriteTable mail h = cc
-served_some (mailet.Forward to pass_through) mail h = cc
-served_some (mailet.Bounce message pass_through) mail h = cc
-served_some (mailet.NotifyPostmaster pass_through) mail h = cc
-served_some mailet.LocalDelivery mail h = cc
-served_some (mailet.ToRepository path pass_through) mail h = omega arith
-served_some (mailet.RemoteDelivery outgoing schedule gateway bounce_processor) mail h = cc
-served_some (mailet.Fail text) mail h = cc
-
-run_some : (name : List ℕ) (steps : List Step) (mail : Mail) → list_all is_built_step steps ≡ true → 1 ≤ parts_of (run name steps mail)
-run_some name [] mail h = omega arith
-run_some name (step ∷ steps) mail h =
-    let first = and_parts (is_built_step step) (list_all is_built_step steps) h in
-    served_some step.mailet mail (and_parts (is_built_matcher step.matcher) (is_built_mailet step.mailet) first.0).1
-
--- a processor of this name is found
-found_by : (state : List ℕ) (p : Processor) (rest : Option Processor) (b : Bool) → bytes_eq p.name state ≡ b → (b ≡ false → rest ≡ None → ⊥)
-    → (if b then Some p else rest) ≡ None → ⊥
-found_by state p rest true e later none = cc
-found_by state p rest false e later none = later refl none
-
-pub found : (state : List ℕ) (processors : List Processor) → list_any (bytes_eq state) (names_of processors) ≡ true → processor_named state processors ≡ None → ⊥
-found state [] some none = cc
-found state (p ∷ processors) some none =
-    found_by state p (processor_named state processors) (bytes_eq p.name state) refl
-    (λ other. found state processors (sym (ap (λ b. b || list_any (bytes_eq state) (names_of processors)) (same_bytes state p.name ∙ other)) ∙ some)) none
-
-run_in_some : (at : Option Processor) (mail : Mail) → (at ≡ None → ⊥) → ((p : Processor) → at ≡ Some p → is_built_processor p ≡ true) → 1 ≤ parts_of (run_in at mail)
-run_in_some None mail there built = absurd (there refl)
-run_in_some (Some p) mail there built = run_some p.name p.steps mail (built p refl)
-
-drafts_some_by : (at : Option Processor) (mail : Mail) (b : Bool) → 1 ≤ parts_of (run_in at mail)
-    → 1 ≤ parts_of (if b then one_fact (Looped mail.recipients) else run_in at mail)
-drafts_some_by at mail true some = omega arith
-drafts_some_by at mail false some = some
-
-pub drafts_some : (plan : Plan) (state : List ℕ) (mail : Mail) → is_built plan ≡ true → names_processor plan state ≡ true → 1 ≤ parts_of (drafts plan (Process state) mail)
-drafts_some plan state mail built named =
-    let at = processor_named state plan.processors in
-    drafts_some_by at mail (nat_le plan.max_hops mail.hops)
-    (run_in_some at mail (found state plan.processors named) (λ p here. processor_passes is_built_processor state plan.processors p here built))
+pub drafts_young : (plan : Plan) (stage : Stage) (mail : Mail) → IsSound plan → IsYoung mail (drafts plan stage mail)
+drafts_young plan (Process state) mail sound = drafts_young_by plan state mail sound (nat_le plan.max_hops mail.hops) refl
+drafts_young plan (Remote delivery host attempt) mail sound = inl refl

@@ -1,4 +1,8 @@
-//! What the container makes of mails, from top to bottom: when a mail is sound for a plan, what a mailet gives, how a
-//! mail leaves, what the steps of a processor make of it, and what one step of a mail is. Definitions alone, and the
-//! laws that follow from them; the crates of code cite them.
+//! What the container makes of mails, from top to bottom: when a mail is sound for a plan, which recipients a matcher
+//! takes, what a mailet gives, how a mail leaves, what the steps of a processor make of it, and what one step of a mail is.
+//! Definitions, the types that they speak of, and the laws that follow; the crates of code cite them.
 #![tactic(auto)]
+
+mod service;
+
+pub use service::{Onward, ServeError, Served, Unserved};
