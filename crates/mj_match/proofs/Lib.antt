@@ -1,0 +1,4 @@
+pub mod Decimals
+pub mod Lists
+pub mod Hits
+pub mod FirstFailed
