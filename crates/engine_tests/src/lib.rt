@@ -3,4 +3,6 @@
 
 #[cfg(test)]
 mod runs;
+#[cfg(test)]
+mod splits;
 pub mod sure;

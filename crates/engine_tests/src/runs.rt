@@ -6,7 +6,7 @@ use std::process::Abort;
 use std::test::Fail;
 
 /// The table `[spool]`.
-const SPOOL: &str =
+pub(crate) const SPOOL: &str =
     "[spool]\nhost_name = \"mx.example.org\"\npostmaster = \"postmaster@example.org\"\nlocal_hosts = [\"example.org\"]\nlocal_users = [\"ann\", \"bob\", \"postmaster\"]\nstart = \"2024-01-01T00:00:00Z\"\n";
 
 /// A processor `root` that deposits each mail.
@@ -18,10 +18,10 @@ const TO_A: &str =
     "[[processor]]\nname = \"root\"\n[[processor.step]]\nmatch = \"All\"\nclass = \"ToProcessor\"\nprocessor = \"a\"\n[[processor]]\nname = \"a\"\n";
 
 /// A processor `error` without steps.
-const ERROR: &str = "[[processor]]\nname = \"error\"\n";
+pub(crate) const ERROR: &str = "[[processor]]\nname = \"error\"\n";
 
 /// The mail of these tests.
-const MAIL: &str =
+pub(crate) const MAIL: &str =
     "MAIL FROM:<cara@example.net>\r\nRCPT TO:<ann@example.org>\r\nDATA\r\nSubject: one\r\n\r\nhello\r\n";
 
 /// The line of the mail where it is deposited.
@@ -75,7 +75,7 @@ fn failing(alloc: Global, files: Items<MemoryFile>, call: u64) -> Result<MemoryF
 }
 
 /// A folder with this configuration and this file.
-fn folder(
+pub(crate) fn folder(
     alloc: Global,
     configuration: &str,
     file: (&str, &str),
@@ -125,7 +125,7 @@ fn ran(
 }
 
 /// Whether a run over these files ends with this status and writes this.
-fn ends(
+pub(crate) fn ends(
     alloc: Global,
     words: &[&str],
     files: &mut MemoryFiles,
@@ -148,7 +148,7 @@ fn plain_ends(
 }
 
 /// Fails where it isn't so. The case is what is looked at.
-fn assert_so(rt: &impl Abort, is_so: bool, case: &str) {
+pub(crate) fn assert_so(rt: &impl Abort, is_so: bool, case: &str) {
     assert!(rt; is_so, "at {case}");
 }
 

@@ -4,11 +4,11 @@ ghost use Rattle.std.specs.List.{list_all};
 ghost use Rattle.std.specs.Option.{option_copied};
 ghost use Rattle.mj_plan.specs.Sound.{IsSound};
 ghost use Rattle.mj_config_walk.specs.Walk.{Answers};
-ghost use Rattle.mj_container.specs.Built.{is_built, is_built_mailet, is_built_matcher, is_built_step};
+ghost use Rattle.mj_container.specs.Built.{is_built, is_built_mailet, is_built_step};
 ghost use Rattle.mj_engine.specs.Config.{built, configuration, unbuilt, unbuilt_step};
 
 use mj_config::{PlanFault, PlanKind, read_plan};
-use mj_plan::{Condition, MailetKind, MatchExpr, Plan, Processor, Step};
+use mj_plan::{MailetKind, Plan, Processor, Step};
 use std::alloc::Global;
 
 /// The plan of the configuration file, of which at least the first 1,048,577 bytes were read, or its fault: the walk's first
@@ -80,21 +80,14 @@ fn unbuilt_step(steps: &[Step]) -> Option<u32>
 fn is_built_step(step: &Step) -> bool
     ensures { result ≡ is_built_step step.now }
 {
-    let mailet = is_built_mailet(&step.mailet);
-    is_built_matcher(&step.matcher) && mailet
-}
-
-fn is_built_matcher(matcher: &MatchExpr) -> bool
-    ensures { result ≡ is_built_matcher matcher.now }
-{
-    matches!(matcher, MatchExpr::One(Condition::All))
+    is_built_mailet(&step.mailet)
 }
 
 fn is_built_mailet(mailet: &MailetKind) -> bool
     ensures { result ≡ is_built_mailet mailet.now }
 {
     match mailet {
-        MailetKind::ToProcessor { .. } | MailetKind::Null => true,
+        MailetKind::ToProcessor { .. } | MailetKind::Null | MailetKind::Fail { .. } => true,
         MailetKind::ToRepository { pass_through, .. } => !*pass_through,
         _ => false,
     }

@@ -2,7 +2,7 @@ ghost use Rattle.std.specs.Prelude.{◌≡◌, true};
 ghost use Rattle.mj_plan.specs.Sound.{IsSound};
 ghost use Rattle.mj_container.specs.Built.{is_built};
 
-use crate::running::draft;
+use crate::stepping::step;
 use mj_fields::{Items, Memory};
 use mj_mail::{Mail, NewMail, Outcome, Reply, Rules};
 use mj_plan::Plan;
@@ -19,7 +19,7 @@ pub struct JamesRules {
 impl Rules for JamesRules {
     ghost use Rattle.std.specs.Prelude.{◌≡◌, refl};
     ghost use Rattle.mj_mail.specs.Mail.{first as first_mail};
-    ghost use Rattle.mj_container.specs.Running.{no_replies, step_with};
+    ghost use Rattle.mj_container.specs.Running.{no_replies, step as step_of};
     ghost use Rattle.mj_container.specs.Sound.{is_sound as is_sound_mail, measure as measure_of};
     ghost use Rattle.mj_container.proofs.Laws as laws;
 
@@ -27,7 +27,7 @@ impl Rules for JamesRules {
 
     ghost replies_to = { λ rules mail. no_replies rules.plan mail };
 
-    ghost outcome_of = { λ rules mail replies. step_with rules.plan mail replies };
+    ghost outcome_of = { λ rules mail replies. step_of rules.plan mail replies };
 
     ghost is_sound = { λ rules mail. is_sound_mail rules.plan mail };
 
@@ -41,9 +41,8 @@ impl Rules for JamesRules {
         Ok(Items::new(alloc))
     }
 
-    fn step(&self, alloc: Global, mail: &Mail, _replies: &Items<Reply>) -> Result<Outcome, Memory> {
-        let outcome = draft(alloc, &self.plan, mail)?;
-        outcome.numbered(alloc)
+    fn step(&self, alloc: Global, mail: &Mail, replies: &Items<Reply>) -> Result<Outcome, Memory> {
+        step(alloc, &self.plan, mail, replies)
     }
 
     ghost first_sound = { λ rules number new acceptable. laws.first_sound rules.plan rules.sound number new acceptable };
@@ -54,17 +53,19 @@ impl Rules for JamesRules {
 
     ghost children_sound = { λ rules mail sound. laws.children_sound rules.plan rules.sound mail sound };
 
-    ghost children_named = { λ rules mail sound. laws.children_named rules.plan rules.sound mail };
+    ghost children_named = { λ rules mail sound. laws.children_named rules.plan rules.sound mail sound };
 
-    ghost falls = { λ rules mail sound. laws.falls rules.plan rules.sound mail };
+    ghost falls = { λ rules mail sound. laws.falls rules.plan rules.sound mail sound };
 
     ghost facts_own = { λ rules mail sound. laws.facts_own rules.plan rules.sound mail sound };
 
-    ghost children_own = { λ rules mail sound. laws.children_own rules.plan rules.sound mail };
+    ghost children_own = { λ rules mail sound. laws.children_own rules.plan rules.sound mail sound };
 
     ghost facts_storable = { λ rules mail sound. laws.facts_storable rules.plan rules.sound mail sound };
 
-    ghost children_small = { λ rules mail sound. laws.children_small rules.plan rules.sound mail sound };
+    ghost children_storable = { λ rules mail sound. laws.children_storable rules.plan rules.sound mail sound };
 
-    ghost stays = { λ rules mail sound. laws.stays rules.plan rules.sound mail rules.built sound };
+    ghost stays = { λ rules mail sound. laws.stays rules.plan rules.sound mail sound rules.built };
+
+    ghost done_small = { λ rules mail sound. laws.done_small rules.plan rules.sound mail sound };
 }

@@ -2,6 +2,6 @@
 #![tactic(auto)]
 
 mod james_rules;
-mod running;
+mod stepping;
 
 pub use james_rules::JamesRules;
