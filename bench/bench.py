@@ -13,6 +13,14 @@ Shapes:
               those with 500: the time of each against that of the first
   hops        20 mails of BYTES that loop through 100 hops, and through 1,000: the time of a mail against that at 100
   processors  N / 10 and N mails that go through three processors: the time against that of N / 10
+  matching    each against the first of its pair: 20 mails of 500 recipients through `RecipientIs` with 1 and with 100
+              addresses; N mails through `RecipientIsLocal` with 1 and with 50,000 local users, and through `HostIsLocal`
+              with 1 and with 10,000 local hosts, each above an empty run of its configuration; N mails through 100
+              matchers of one condition and through one of 100, each above N mails through `All`; 20 mails with a head
+              of 60,000 bytes that are split by 100 steps for 100 recipients, and by 200 for 200; 20 mails with such a
+              head through one step that takes all and lets them go on, and through 100; N mails through `All`, and
+              through three processors of five steps; one mail of 500 recipients at 500 domains, with 16,000 fields,
+              through 199 matchers of 100 conditions inside 16 composites
   plan        a configuration of 1 MB in many steps, and one in many rows of `[[rewrite]]`, with no mail: the time above
               that of an empty run, against what `toml` alone takes for the same bytes, and the peak memory above that
               of an empty run
@@ -92,6 +100,30 @@ LOOP = processor("root", to_processor("root")) + processor("error")
 CHAIN = (processor("root", to_processor("second")) + processor("second", to_processor("third"))
          + processor("third", TO_REPOSITORY) + processor("error"))
 
+
+
+def matched(*steps):
+    """Steps of a matcher, as TOML, and the lines behind it."""
+    return "".join(f"[[processor.step]]\nmatch = {matcher}\n{lines}\n" for matcher, lines in steps)
+
+
+def root(*steps):
+    return '[[processor]]\nname = "root"\n' + matched(*steps)
+
+
+def spool_of(hosts=("example.net",), users=("bob0",)):
+    """The table `[spool]` with these local hosts and users."""
+    quoted = [", ".join(f'"{name}"' for name in names) for names in (hosts, users)]
+    lines = SPOOL.replace('["example.org"]', f"[{quoted[0]}]")
+    return lines.replace('["ann", "bob", "postmaster"]', f"[{quoted[1]}]")
+
+
+# A mail goes through three processors; at each the last of five steps takes it.
+PASSED = [(f'"HasHeader=X-{number}"', TO_REPOSITORY) for number in range(4)]
+FIVE_EACH = (root(*PASSED, ('"All"', to_processor("second")))
+             + '[[processor]]\nname = "second"\n' + matched(*PASSED, ('"All"', to_processor("third")))
+             + '[[processor]]\nname = "third"\n' + matched(*PASSED, ('"All"', TO_REPOSITORY)) + processor("error"))
+
 CRATES = Path(__file__).resolve().parents[1] / "crates"
 PROGRAM = CRATES / "james_cli/out/james_cli"
 YARDSTICK = CRATES / "toml_yardstick/out/toml_yardstick"
@@ -99,7 +131,7 @@ QUEUE = CRATES / "ready_bench/out/ready_bench"
 LOG = CRATES / "log_bench/out/log_bench"
 APPEND = Path(__file__).resolve().parent / "append.c"
 IN_MEMORY = Path("/dev/shm")
-SHAPES = ("small", "large", "rate", "heads", "recipients", "hops", "processors", "plan", "queue", "log")
+SHAPES = ("small", "large", "rate", "heads", "recipients", "hops", "processors", "matching", "plan", "queue", "log")
 
 MAX_FILE = 16_777_216
 LONG_HEAD = 65_000
@@ -218,6 +250,7 @@ class Folder:
         self.report = bench.root / f"{name}.report"
         self.count = 0
         self.size = 0
+        self.lines_each = 1  # lines of the report for a mail
         self.mails.mkdir(parents=True)
         (self.path / "conf").mkdir()
         (self.path / "conf/mailetcontainer.toml").write_text(configuration)
@@ -259,7 +292,7 @@ class Folder:
         lines = text.count(b"\n")
         refused = (b"\n" + text).count(b"\nrefused ")
         first = text.split(b"\n", 1)[0].decode(errors="replace")
-        if status != 0 or lines != self.count or refused:
+        if status != 0 or lines != self.lines_each * self.count or refused:
             raise Fault(f"{self.path.name}: status {status}, {lines} lines for {self.count} mails, "
                         f"{refused} refused; the first line is: {first[:200]}")
 
@@ -437,6 +470,114 @@ class Bench:
         title("processors: mails through three processors", "time", "by the first")
         for at, folder in enumerate(folders):
             row(f"{folder.count:,} mails", f"{best(rounds, at).seconds:.3f} s", times(ratio(rounds, at, 0)))
+            folder.remove()
+
+    def matching(self):
+        title("matching", "time", "by the first")
+        self.listed_addresses()
+        hosts = [f"h{number}.test" for number in range(9_999)] + ["example.net"]
+        users = [f"user{number}" for number in range(49_999)] + ["bob0"]
+        self.local("RecipientIsLocal", "local users", {1: spool_of(), 50_000: spool_of(users=users)})
+        self.local("HostIsLocal", "local hosts", {1: spool_of(), 10_000: spool_of(hosts=hosts)})
+        self.conditions()
+        self.splits()
+        self.takes_all()
+        self.five_steps()
+        self.worst()
+
+    def row_pair(self, names, rounds, above=(None, None)):
+        """A row for each of two runs: the first two of the rounds, or what they take above the next two."""
+        for at, name in enumerate(names):
+            empty = above[at]
+            seconds = best(rounds, at).seconds - (0 if empty is None else best(rounds, empty).seconds)
+            pair = None if above[0] is None else (above[at], above[0])
+            row(name, f"{seconds * 1000:.1f} ms", times(ratio(rounds, at, 0, above=pair)))
+
+    def listed_addresses(self):
+        content = mail(recipients=500, body_size=self.body_size)
+        folders = []
+        for count in (1, 100):
+            addresses = ",".join(f"bob{number}@example.net" for number in range(count))
+            steps = root((f'"RecipientIs={addresses}"', TO_REPOSITORY), ('"All"', TO_REPOSITORY))
+            folders.append(self.folder(f"addresses {count}", content, 20, SPOOL + steps + processor("error")))
+            folders[-1].lines_each = 2
+        rounds = self.measure(*[folder.run_once for folder in folders])
+        self.row_pair(("RecipientIs, 1 address", "RecipientIs, 100 addresses"), rounds)
+        for folder in folders:
+            folder.remove()
+
+    def local(self, matcher, what, spools):
+        content = mail(body_size=self.body_size)
+        steps = root((f'"{matcher}"', TO_REPOSITORY)) + processor("error")
+        full = [self.folder(f"{matcher} {count}", content, self.mails, spool + steps) for count, spool in spools.items()]
+        empty = [self.folder(f"{matcher} {count} empty", configuration=spool + steps) for count, spool in spools.items()]
+        rounds = self.measure(*[folder.run_once for folder in full + empty])
+        self.row_pair([f"{matcher}, {count:,} {what}" for count in spools], rounds, above=(2, 3))
+        for folder in full + empty:
+            folder.remove()
+
+    def conditions(self):
+        """100 steps of one condition, and one step of 100, above a step with `All` alone."""
+        content = mail(body_size=self.body_size)
+        names = [f'"HasHeader=X-{number}"' for number in range(100)]
+        last = ('"All"', TO_REPOSITORY)
+        configurations = {
+            "100 matchers of one condition": root(*[(name, TO_REPOSITORY) for name in names], last),
+            "a matcher of 100 conditions": root((f"{{ Or = [{', '.join(names)}] }}", TO_REPOSITORY), last),
+            "All": root(last),
+        }
+        folders = [self.folder(name, content, self.mails, SPOOL + steps + processor("error"))
+                   for name, steps in configurations.items()]
+        rounds = self.measure(*[folder.run_once for folder in folders])
+        self.row_pair(list(configurations)[:2], rounds, above=(2, 2))
+        for folder in folders:
+            folder.remove()
+
+    def splits(self):
+        """Each step takes one recipient of a mail with a head of 60,000 bytes."""
+        folders = []
+        for count in (100, 200):
+            steps = root(*[(f'"UserIs=bob{number}"', TO_REPOSITORY) for number in range(count)])
+            content = mail(b"X: " + b"x" * 59_995 + b"\r\n", count, self.body_size)
+            folders.append(self.folder(f"splits {count}", content, 20, SPOOL + steps + processor("error")))
+            folders[-1].lines_each = count
+        rounds = self.measure(*[folder.run_once for folder in folders])
+        self.row_pair(("100 steps, 100 recipients", "200 steps, 200 recipients"), rounds)
+        for folder in folders:
+            folder.remove()
+
+    def takes_all(self):
+        """Where all recipients are taken, no head is copied."""
+        content = mail(b"X: " + b"x" * 59_995 + b"\r\n", 3, self.body_size)
+        goes_on = ('"All"', 'class = "Fail"\nonMailetException = "ignore"')
+        folders = [self.folder(f"takes all {count}", content, 20,
+                               SPOOL + root(*[goes_on] * count, ('"All"', TO_REPOSITORY)) + processor("error"))
+                   for count in (1, 100)]
+        rounds = self.measure(*[folder.run_once for folder in folders])
+        self.row_pair(("1 step takes all, a long head", "100 steps take all"), rounds)
+        for folder in folders:
+            folder.remove()
+
+    def worst(self):
+        """Each condition looks for a field that isn't there, and none holds."""
+        matcher = ", ".join([f'"CompareNumericHeaderValue=Y-{number} > 5"' for number in range(99)] + ['"HostIs=none.test"'])
+        for _ in range(16):
+            matcher = f"{{ Or = [{matcher}] }}"
+        lines = [f"RCPT TO:<bob@host{number}.test>\r\n" for number in range(500)]
+        content = f"MAIL FROM:<>\r\n{''.join(lines)}DATA\r\n".encode() + b"X:\r\n" * 16_000 + b"\r\n"
+        steps = root(*[(matcher, TO_REPOSITORY)] * 199, ('"All"', TO_REPOSITORY))
+        folder = self.folder("worst", content, 1, SPOOL + steps + processor("error"))
+        rounds = rounds_of(1, folder.run_once)
+        row("one mail, 20,000 conditions", f"{best(rounds, 0).seconds * 1000:.1f} ms")
+        folder.remove()
+
+    def five_steps(self):
+        content = mail(body_size=self.body_size)
+        configurations = {"All": CONFIGURATION, "three processors of five steps": SPOOL + FIVE_EACH}
+        folders = [self.folder(name, content, self.mails, text) for name, text in configurations.items()]
+        rounds = self.measure(*[folder.run_once for folder in folders])
+        self.row_pair([f"{self.mails:,} mails, {name}" for name in configurations], rounds)
+        for folder in folders:
             folder.remove()
 
     def plan(self):
