@@ -174,7 +174,7 @@ fn is_at(head: &Head, place: usize, name: &[u8], body: &[u8]) -> bool {
 fn takes_out_fields(rt: HostRuntime) -> Result<(), Fail> {
     let mut head = head_of(rt.alloc(), b"X : 1\n 2\nA: 3\r\nx: 4\r\nB:5\r\n\r\n")?;
     assert_so(&rt, is_at(&head, 0, b"X", b" 1\r\n 2"), "X");
-    head.remove(b"x");
+    head.remove(b"x")?;
     assert_so(&rt, head.get(2).is_none(), "no third");
     assert_so(
         &rt,
@@ -189,7 +189,25 @@ fn adds_raw_fields(rt: HostRuntime) -> Result<(), Fail> {
     let mut head = Head::new(rt.alloc());
     assert_so(&rt, head.add_raw(b"Y", b" a\r\n b")?, "a folded body");
     assert_so(&rt, !head.add_raw(b"Y", b" a\n b")?, "a bare LF");
-    assert_so(&rt, head.copy(rt.alloc())?.written_len() == 10, "a copy");
+    Ok(())
+}
+
+#[test]
+fn copies_stay(rt: HostRuntime) -> Result<(), Fail> {
+    let mut head = head_of(rt.alloc(), b"A: 1\r\nB: 2\r\n\r\n")?;
+    let copy = head.copy()?;
+    head.remove(b"A")?;
+    assert_so(&rt, appends(&mut head, b"C", b"3")?, "a field more");
+    assert_so(
+        &rt,
+        is_written_as(rt.alloc(), &head, b"B: 2\r\nC: 3\r\n")?,
+        "the head",
+    );
+    assert_so(
+        &rt,
+        is_written_as(rt.alloc(), &copy, b"A: 1\r\nB: 2\r\n")?,
+        "its copy",
+    );
     Ok(())
 }
 

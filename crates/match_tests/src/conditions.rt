@@ -38,6 +38,36 @@ const OF_ONE: &str = r#"1 "All"
 !1 "Fail"
 "#;
 
+/// Another mail to one recipient, of a sender and with fields.
+const OTHER: &str =
+    "MAIL FROM:<Cara@Example.net>\nRCPT TO:<dan@other.net>\nDATA\nReceived: b\nsubject: Hello\n world\nRECEIVED: a\nX-Score: 5\nX-Word: five\n\nhello";
+
+/// What conditions say of it with the attributes of a delivery that failed for good.
+const OF_OTHER: &str = r#"0 "RecipientIs=ann@example.org"
+1 "RecipientIs=Dan@Other.net"
+0 "RecipientIsLocal"
+1 "HostIs=Other.net"
+0 "HostIsLocal"
+0 "UserIs=ann"
+1 "SenderIs=cara@example.net"
+1 "SenderHostIs=EXAMPLE.NET"
+0 "SenderIsNull"
+1 "SubjectIs=Hello world"
+1 "SubjectStartsWith=Hello"
+1 "HasHeader=x-score"
+1 "HasHeader=X-Score=5"
+1 "HasMailAttribute=color"
+1 "HasMailAttributeWithValue=color,red"
+1 "RelayLimit=2"
+0 "RelayLimit=3"
+1 "CompareNumericHeaderValue=X-Score >= 5"
+0 "CompareNumericHeaderValue=X-Score > 5"
+!1 "CompareNumericHeaderValue=X-Word = 5"
+1 "IsRemoteDeliveryPermanentError"
+0 "IsRemoteDeliveryTemporaryError"
+1 "RemoteDeliveryFailedWithSMTPCode=550"
+"#;
+
 /// A mail to three recipients, with fields and three hops.
 const THREE: &str =
     "MAIL FROM:<Cara@Example.net>\nRCPT TO:<ANN@Example.ORG>\nRCPT TO:<bob@example.com>\nRCPT TO:<dan@other.net>\nDATA\nReceived: c\nReceived: b\nsubject: Hello\n world\nRECEIVED: a\nSubject: no\nX-Empty:\n\nhello";
@@ -108,10 +138,35 @@ const OF_THREE: &str = r#"111 "All"
 !1 "Fail"
 "#;
 
-/// The attributes of a mail whose delivery has failed for now, or has an error of another text.
+/// A mail of a null sender to three recipients, with numbers and without a subject.
+const NULL: &str =
+    "MAIL FROM:<>\nRCPT TO:<dan@other.net>\nRCPT TO:<eve@other.net>\nRCPT TO:<ann@other.net>\nDATA\nX-Score: 5\nX-Word: five\n\nhello";
+
+/// What conditions say of it with the attributes of a delivery that failed for now.
+const OF_NULL: &str = r#"000 "RecipientIsLocal"
+000 "HostIsLocal"
+000 "UserIs=bob"
+000 "SenderIs=cara@example.net"
+000 "SenderHostIs=example.net"
+111 "SenderIsNull"
+000 "SubjectIs=Hello world"
+000 "SubjectStartsWith=H"
+000 "HasHeader=Subject"
+000 "HasMailAttribute=color"
+000 "HasMailAttributeWithValue=color,red"
+000 "RelayLimit=1"
+111 "CompareNumericHeaderValue=X-Score >= 5"
+000 "CompareNumericHeaderValue=X-Score > 5"
+!1 "CompareNumericHeaderValue=X-Word = 5"
+000 "IsRemoteDeliveryPermanentError"
+111 "IsRemoteDeliveryTemporaryError"
+000 "RemoteDeliveryFailedWithSMTPCode=550"
+"#;
+
+/// The attributes of a mail whose delivery has failed for now, and of one with an error of another text.
 const FOR_NOW: [(&str, &str); 1] = [("is-delivery-permanent-error", "false")];
 
-const OF_OTHER: [(&str, &str); 1] = [("is-delivery-permanent-error", "True")];
+const FOR_NEITHER: [(&str, &str); 1] = [("is-delivery-permanent-error", "True")];
 
 const OF_FOR_NOW: &str = r#"0 "IsRemoteDeliveryPermanentError"
 1 "IsRemoteDeliveryTemporaryError"
@@ -124,16 +179,18 @@ const OF_NEITHER: &str = r#"0 "IsRemoteDeliveryPermanentError"
 
 #[test]
 fn one_recipient(rt: HostRuntime) -> Result<(), Fail> {
-    check_rows(&rt, &mail_of(rt.alloc(), ONE, &[])?, OF_ONE)
+    check_rows(&rt, &mail_of(rt.alloc(), ONE, &[])?, OF_ONE)?;
+    check_rows(&rt, &mail_of(rt.alloc(), OTHER, &FOR_GOOD)?, OF_OTHER)
 }
 
 #[test]
 fn three_recipients(rt: HostRuntime) -> Result<(), Fail> {
-    check_rows(&rt, &mail_of(rt.alloc(), THREE, &FOR_GOOD)?, OF_THREE)
+    check_rows(&rt, &mail_of(rt.alloc(), THREE, &FOR_GOOD)?, OF_THREE)?;
+    check_rows(&rt, &mail_of(rt.alloc(), NULL, &FOR_NOW)?, OF_NULL)
 }
 
 #[test]
 fn failed_deliveries(rt: HostRuntime) -> Result<(), Fail> {
     check_rows(&rt, &mail_of(rt.alloc(), ONE, &FOR_NOW)?, OF_FOR_NOW)?;
-    check_rows(&rt, &mail_of(rt.alloc(), ONE, &OF_OTHER)?, OF_NEITHER)
+    check_rows(&rt, &mail_of(rt.alloc(), ONE, &FOR_NEITHER)?, OF_NEITHER)
 }

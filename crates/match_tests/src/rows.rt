@@ -73,12 +73,11 @@ fn accepted(alloc: Global, text: &str) -> Result<Mail, Fail> {
 
 /// Whether the truths are these digits.
 fn are_digits(mask: &Mask, digits: &[u8]) -> bool {
-    mask.len() == digits.len()
-        && mask
-            .as_slice()
+    mask.at(digits.len()).is_none()
+        && digits
             .iter()
-            .zip(digits)
-            .all(|(truth, digit)| *truth == (*digit == b'1'))
+            .enumerate()
+            .all(|(k, digit)| mask.at(k) == Some(*digit == b'1'))
 }
 
 /// Whether the answer is as wanted: a digit for each recipient, 1 where the matcher takes it, or `!` and the number of the

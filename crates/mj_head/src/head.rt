@@ -1,7 +1,7 @@
 //! A head: a list of fields.
 ghost use Rattle.std.specs.Prelude.{◌≡◌, ◌+◌, ◌<◌, ◌≤◌, ◌==◌, ◌↔◌, [], ◌∷◌, ◌++◌, true, false, not, length, filter, count_by, slice_get, take, drop, IsTrue, Option, Result, IfOk, OnOk, OnErr, List, ℕ};
 ghost use Rattle.std.specs.Option.{option_map};
-ghost use Rattle.mj_head.specs.Head.{written, is_head, is_field, is_field_name, head_of};
+ghost use Rattle.mj_head.specs.Head.{fields_in, written, is_head, is_field, is_field_name, head_of};
 ghost use Rattle.mj_head.specs.Reading.{with_body, Stands};
 ghost use Rattle.mj_head.specs.Fields.{is_named, unfolded, is_field_value, replaced_first, IsSomeHead};
 
@@ -9,16 +9,18 @@ use crate::cursor::WRITTEN_LIMIT;
 use crate::field::Field;
 use crate::fields::{count_named, fields_from, first_named, place_named, put_field, remove_named};
 use crate::read::is_field;
+use crate::text::Text;
 use crate::unfold::unfold;
 use crate::walk::Fields;
 use std::alloc::{AllocError, Global};
 use std::marker::Model;
 
 /// The head of a message: its fields in order, in a written form of at most 65,536 bytes (RFC 5322,
-/// 2.2). It is this written form. Contracts see the list of its fields.
+/// 2.2). It is this written form, which a copy shares until one of them is changed. Contracts see the
+/// list of its fields.
 #[derive(Debug, Drop)]
 pub struct Head {
-    pub(crate) text: Vec<u8>,
+    pub(crate) text: Text,
 }
 
 impl Model for Head {
@@ -27,10 +29,10 @@ impl Model for Head {
 
     ghost Value = { List (List ℕ × List ℕ) };
 
-    ghost view = { λ head. fields_in head.text.items };
+    ghost view = { λ head. fields_in head.text };
 
-    ghost invariant = { λ head. (written (fields_in head.text.items) ≡ head.text.items)
-        × (is_head (fields_in head.text.items) ≡ true) };
+    ghost invariant = { λ head. (written (fields_in head.text) ≡ head.text)
+        × (is_head (fields_in head.text) ≡ true) };
 }
 
 impl Head {
@@ -39,8 +41,18 @@ impl Head {
         ensures { result ≡ [] }
     {
         Head {
-            text: Vec::new(alloc),
+            text: Text::new(alloc),
         }
+    }
+
+    /// The head of this written form.
+    pub(crate) fn of(alloc: Global, text: Vec<u8>) -> Result<Head, AllocError>
+        requires same { written (fields_in text.items) ≡ text.items }
+        requires head { is_head (fields_in text.items) ≡ true }
+        ensures { IfOk result (λ head. head ≡ fields_in text.items) }
+    {
+        let text = Text::from_vec(alloc, text)?;
+        Ok(Head { text })
     }
 
     /// The number of fields. It goes over the fields.
@@ -54,7 +66,7 @@ impl Head {
     pub fn is_empty(&self) -> bool
         ensures { result ≡ (length self.now == 0) }
     {
-        self.text.is_empty()
+        self.text.as_slice().is_empty()
     }
 
     /// The field at this place, from 0; `None` where there are no more than `place` fields. It goes
@@ -71,7 +83,7 @@ impl Head {
         ensures all { result ≡ self.now }
         ensures few { length self.now ≤ 65536 }
     {
-        Fields::new(&self.text)
+        Fields::new(self.text.as_slice())
     }
 
     /// The number of bytes of the written form, at most 65,536.
@@ -98,21 +110,25 @@ impl Head {
         // What every head is.
         ensures form { is_head self.now ≡ true }
     {
-        out.extend_from_slice(&self.text)
+        out.extend_from_slice(self.text.as_slice())
     }
 
     /// Takes out every field of this name, without regard to ASCII case.
-    pub fn remove(&mut self, name: &[u8])
-        ensures { self.new ≡ filter (λ field. not (is_named name.now field)) self.old }
+    pub fn remove(&mut self, name: &[u8]) -> Result<(), AllocError>
+        ensures ok { OnOk result (self.new ≡ filter (λ field. not (is_named name.now field)) self.old) }
+        ensures err { OnErr result (self.new ≡ self.old) }
     {
-        remove_named(&mut self.text, name);
+        let mut text = self.text.with_room(0)?;
+        remove_named(&mut text, name);
+        *self = Head::of(self.text.allocator(), text)?;
+        Ok(())
     }
 
-    /// A head equal to this one, in memory of its own.
-    pub fn copy(&self, alloc: Global) -> Result<Head, AllocError>
+    /// A head equal to this one. Both share their memory until one of them is changed.
+    pub fn copy(&self) -> Result<Head, AllocError>
         ensures { IfOk result (λ head. head ≡ self.now) }
     {
-        let text = Vec::from_slice(alloc, &self.text)?;
+        let text = self.text.copy()?;
         Ok(Head { text })
     }
 
@@ -173,8 +189,9 @@ impl Head {
         if needed > WRITTEN_LIMIT - others {
             return Ok(false);
         }
-        let alloc = *self.text.allocator();
-        self.text = with_value(alloc, &self.text, from, to, value)?;
+        let alloc = self.text.allocator();
+        let text = with_value(alloc, self.text.as_slice(), from, to, value)?;
+        *self = Head::of(alloc, text)?;
         Ok(true)
     }
 
@@ -198,7 +215,10 @@ impl Head {
         ensures ok { OnOk result (self.new ≡ self.old ++ (name.now, front.now ++ body.now) ∷ []) }
         ensures err { OnErr result (self.new ≡ self.old) }
     {
-        put_field(&mut self.text, name, front, body)?;
+        let more = name.len() + front.len() + body.len() + 3;
+        let mut text = self.text.with_room(more)?;
+        put_field(&mut text, name, front, body)?;
+        *self = Head::of(self.text.allocator(), text)?;
         Ok(())
     }
 

@@ -8,6 +8,7 @@ mod fields;
 mod head;
 mod line;
 mod read;
+mod text;
 mod unfold;
 mod walk;
 

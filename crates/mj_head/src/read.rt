@@ -1,8 +1,9 @@
 //! Reading a head line by line.
 ghost use Rattle.std.specs.Prelude.{◌≡◌, ◌+◌, ◌<◌, ◌≤◌, [], ◌∷◌, ◌++◌, true, false, length, take, Option, OnOk, IfOk, IfErr, MatchOption, IsTrue, ◌↔◌, ◌==◌, None};
 ghost use Rattle.std.specs.List.{list_all, list_any};
+ghost use Rattle.mj_terms.specs.Answers.{GivesBy};
 ghost use Rattle.mj_terms.specs.Text.{trim_back};
-ghost use Rattle.mj_head.specs.Head.{Gives, lines, body_place, head_lines, form_fault, is_continuation, is_field, is_field_name, is_name_byte, is_raw_body, begins_blank, before_colon, after_colon, head_of};
+ghost use Rattle.mj_head.specs.Head.{Gives, fields_in, told, written, is_head, lines, body_place, head_lines, form_fault, is_continuation, is_field, is_field_name, is_name_byte, is_raw_body, begins_blank, before_colon, after_colon, head_of};
 ghost use Rattle.mj_head.specs.Fields.{is_field_value};
 ghost use Rattle.mj_head_lines.specs.Plain.{ArePlain};
 ghost use Rattle.mj_head.specs.Reading.{IsFault, BeginsField, ReadsLines, fault_from, empty_line_len};
@@ -305,6 +306,17 @@ pub fn read_head(alloc: Global, bytes: &[u8]) -> Result<(Head, usize), HeadFault
     ensures exact { Gives result (head_of bytes.now) }
     ensures place { IfOk result (λ read. read.1 ≤ length bytes.now) }
 {
+    let (text, place) = read_text(alloc, bytes)?;
+    Ok((Head::of(alloc, text)?, place))
+}
+
+/// The same, with the head as its written form.
+fn read_text(alloc: Global, bytes: &[u8]) -> Result<(Vec<u8>, usize), HeadFault>
+    ensures exact { GivesBy told (λ read. (fields_in read.0.items, read.1)) result (head_of bytes.now) }
+    ensures same { IfOk result (λ read. written (fields_in read.0.items) ≡ read.0.items) }
+    ensures head { IfOk result (λ read. is_head (fields_in read.0.items) ≡ true) }
+    ensures place { IfOk result (λ read. read.1 ≤ length bytes.now) }
+{
     // Room for the longest head at once, of which what isn't used is given back.
     let mut text = Vec::with_capacity(alloc, bytes.len().min(WRITTEN_LIMIT))?;
     let mut cursor = Cursor::new(bytes);
@@ -313,5 +325,5 @@ pub fn read_head(alloc: Global, bytes: &[u8]) -> Result<(Head, usize), HeadFault
     }
     text.shrink_to_fit();
     let place = bytes.len() - cursor.rest.len() + empty_line_len(cursor.rest);
-    Ok((Head { text }, place))
+    Ok((text, place))
 }

@@ -118,7 +118,7 @@ impl Mail {
         self.body.message_size(&self.head)
     }
 
-    /// The same mail for these recipients.
+    /// The same mail for these recipients. The two share their head until one is changed.
     pub fn restrict(&self, alloc: Global, recipients: Recipients) -> Result<Mail, Memory>
         ensures { IfOk result (λ mail. mail ≡ restrict self.now recipients) }
     {
@@ -149,7 +149,7 @@ impl Mail {
         Ok((attributes, stage, error))
     }
 
-    /// An equal value with room of its own.
+    /// An equal value with room of its own, but for the head, which both share until one is changed.
     pub fn copy(&self, alloc: Global) -> Result<Mail, Memory>
         ensures { IfOk result (λ mail. mail ≡ self.now) }
     {
@@ -167,7 +167,7 @@ impl NewMail {
         let length = self.body.len() as u32;
         let (sender, recipients) = copy_envelope(alloc, &self.sender, &self.recipients)?;
         let stage = Stage::Process(Bytes::from_slice(alloc, b"root")?);
-        let head = self.head.copy(alloc)?;
+        let head = self.head.copy()?;
         Ok(Mail {
             name: Name::first(alloc, number),
             sender,
@@ -182,12 +182,12 @@ impl NewMail {
         })
     }
 
-    /// An equal value with room of its own.
+    /// An equal value with room of its own, but for the head, which both share until one is changed.
     pub fn copy(&self, alloc: Global) -> Result<NewMail, Memory>
         ensures { IfOk result (λ mail. mail ≡ self.now) }
     {
         let (sender, recipients) = copy_envelope(alloc, &self.sender, &self.recipients)?;
-        let head = self.head.copy(alloc)?;
+        let head = self.head.copy()?;
         let body = self.body.copy(alloc)?;
         Ok(NewMail {
             sender,
@@ -224,11 +224,11 @@ pub fn copy_envelope(
     Ok((sender, recipients))
 }
 
-/// An equal message: a head and a body.
+/// An equal message: a head, which is shared until one is changed, and a body.
 pub fn copy_message(alloc: Global, head: &Head, body: &Body) -> Result<(Head, Body), Memory>
     ensures { IfOk result (λ copied. copied ≡ (head.now, body.now)) }
 {
-    let head = head.copy(alloc)?;
+    let head = head.copy()?;
     let body = body.copy(alloc)?;
     Ok((head, body))
 }

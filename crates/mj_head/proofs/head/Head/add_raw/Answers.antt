@@ -11,7 +11,7 @@ returns-then-needed-len-clause-answer c = (
   λ no. absurd (false≢true no),
   λ some.
       let parts = push_parts c.args.self.now (c.args.name.now, c.args.body.now) some in
-      let len : length (written c.args.self.now) ≡ length c.self.inside.text.items = rw (← c.self.view_is) (ap length c.self.invariant.0) in
+      let len : length (written c.args.self.now) ≡ length c.self.inside.text = rw (← c.self.view_is) (ap length c.self.invariant.0) in
       let short : length (written c.args.self.now) ≤ 65536 = rw (← c.self.view_is) (head_short _ c.self.invariant.1) in
       elim c.then-needed-len.branch [
         | then-needed-len-via-then-needed-len w ↦ absurd (omega (arith, parts.1, len, short))
@@ -22,7 +22,7 @@ returns-then-needed-len-clause-answer c = (
 pub returns-clause-answer : goal.returns-clause-answer
 returns-clause-answer c = (
   λ _.
-      let len : length (written c.args.self.now) ≡ length c.self.inside.text.items = rw (← c.self.view_is) (ap length c.self.invariant.0) in
+      let len : length (written c.args.self.now) ≡ length c.self.inside.text = rw (← c.self.view_is) (ap length c.self.invariant.0) in
       let head : is_head c.args.self.now ≡ true = rw (← c.self.view_is) c.self.invariant.1 in
       let formed : is_field (c.args.name.now, c.args.body.now) ≡ true = cc in
       some_head (c.args.self.now ++ (c.args.name.now, c.args.body.now) ∷ []) (is_head_push c.args.self.now (c.args.name.now, c.args.body.now) head formed (omega (arith, len, head_short c.args.self.now head))),

@@ -1,6 +1,6 @@
 use Rattle.std.proofs.Common.{length}
 use Rattle.mj_head.proofs.Whole.{ReadSoFar}
-use Rattle.mj_head.proofs.read.read_head.Given as goal
+use Rattle.mj_head.proofs.read.read_text.Given as goal
 
 abbrev pub invariant-loop-text : goal.invariant-loop-text
 invariant-loop-text l = ReadSoFar l.bytes l.text.items l.cursor
