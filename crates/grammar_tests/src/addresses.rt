@@ -210,6 +210,28 @@ fn compares_without_case(rt: HostRuntime) -> Result<(), Fail> {
     Ok(())
 }
 
+/// An address in lower case behind other text, with its local part alone in lower case, and at another domain.
+fn respelled(alloc: Global) -> Result<Vec<u8>, Fail> {
+    let ann = Address::read(alloc, b"Ann.Lee@Example.org")?;
+    let domain = Domain::read(alloc, b"New.test")?;
+    let mut text = Vec::from_slice(alloc, b"TO ")?;
+    ann.write_lower_to(&mut text)?;
+    text.push(b' ')?;
+    ann.with_lower_local(alloc)?.write_to(&mut text)?;
+    text.push(b' ')?;
+    ann.at(alloc, &domain)?.write_to(&mut text)?;
+    Ok(text)
+}
+
+const RESPELLED: &str = "TO ann.lee@example.org ann.lee@Example.org Ann.Lee@New.test";
+
+#[test]
+fn respells(rt: HostRuntime) -> Result<(), Fail> {
+    let text = respelled(rt.alloc())?;
+    assert_so(&rt, text.as_slice() == RESPELLED.as_bytes(), RESPELLED);
+    Ok(())
+}
+
 fn add(alloc: Global, recipients: &mut Recipients, text: &str) -> Result<bool, Fail> {
     Ok(recipients.add(Address::read(alloc, text.as_bytes())?)?)
 }

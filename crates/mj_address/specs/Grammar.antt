@@ -48,7 +48,11 @@ pub record IsDomain (text : List ℕ) : Type 0 where
   pub short : length text ≤ 255
   pub form : IsTrue (is_dotted_labels text)
 
--- An address: the pair of a local part and a domain.
-pub record IsAddress (address : List ℕ × List ℕ) : Type 0 where
+-- The pair of a local part and a domain.
+abbrev pub Mailbox : Type 0
+Mailbox = List ℕ × List ℕ
+
+-- An address.
+pub record IsAddress (address : Mailbox) : Type 0 where
   pub local : IsLocal address.0
   pub domain : IsDomain address.1

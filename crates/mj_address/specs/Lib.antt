@@ -3,3 +3,4 @@ pub mod Kept
 pub mod Masks
 pub mod Reading
 pub mod Same
+pub mod Short

@@ -6,7 +6,7 @@ ghost use Rattle.std.specs.Hash as fed;
 ghost use Rattle.std.specs.Str.{str_to_ascii_lowercase};
 ghost use Rattle.mj_address.specs.Grammar.{IsLocal, IsDomain, IsAddress};
 ghost use Rattle.mj_address.specs.Reading.{address_of, spelled, Gives};
-ghost use Rattle.mj_address.specs.Same.{same_address};
+ghost use Rattle.mj_address.specs.Same.{same_address, with_lower_local};
 
 use crate::domain::Domain;
 use crate::fault::AddressFault;
@@ -88,6 +88,22 @@ impl Address {
         Address::keep(alloc, self.local(), self.domain().as_slice())
     }
 
+    /// The same address, spelled with its local part in ASCII lower case.
+    pub fn with_lower_local(&self, alloc: Global) -> Result<Address, AllocError>
+        ensures { IfOk result (λ address. address ≡ with_lower_local self.now) }
+    {
+        let local = self.local().to_ascii_lowercase(alloc)?;
+        let domain = self.domain().copy(alloc)?;
+        Ok(Address { local, domain })
+    }
+
+    /// The same local part at this domain, both spelled as they are.
+    pub fn at(&self, alloc: Global, domain: &Domain) -> Result<Address, AllocError>
+        ensures { IfOk result (λ address. address ≡ (self.now.0, domain.now)) }
+    {
+        Address::keep(alloc, self.local(), domain.as_slice())
+    }
+
     /// How many bytes `write_to` appends: 3 to 320.
     pub fn written_len(&self) -> usize
         ensures value { result ≡ length (spelled self.now) }
@@ -111,6 +127,18 @@ impl Address {
         out.extend_from_slice(local)?;
         out.push(b'@')?;
         out.extend_from_slice(domain)
+    }
+
+    /// Appends what `write_to` does, in ASCII lower case. Where memory runs out the bytes stay as they
+    /// were.
+    pub fn write_lower_to(&self, out: &mut Vec<u8>) -> Result<(), AllocError>
+        ensures ok { OnOk result (out.new.items ≡ out.old.items ++ str_to_ascii_lowercase (spelled self.now)) }
+        ensures err { OnErr result (out.new.items ≡ out.old.items) }
+    {
+        let start = out.len();
+        self.write_to(out)?;
+        out[start..].make_ascii_lowercase();
+        Ok(())
     }
 }
 

@@ -1,10 +1,10 @@
 //! Lists of recipients.
-ghost use Rattle.std.specs.Prelude.{◌≡◌, ◌↔◌, ℕ, List, [], ◌∷◌, ◌++◌, not, length, slice_get, IsTrue, IfOk, OnErr, if◌then◌else◌};
+ghost use Rattle.std.specs.Prelude.{◌≡◌, ◌↔◌, ℕ, List, [], ◌∷◌, ◌++◌, not, length, slice_get, IsTrue, IfOk, OnOk, OnErr};
 ghost use Rattle.std.specs.Iterator.Adapters.{IterYieldsInOrder};
 ghost use Rattle.std.specs.Option.{option_copied};
 ghost use Rattle.std.specs.Slice.Iter.{iter_rest};
 ghost use Rattle.mj_address.specs.Masks.{taken, left};
-ghost use Rattle.mj_address.specs.Same.{has_same, AreRecipients};
+ghost use Rattle.mj_address.specs.Same.{has_same, with_address, with_addresses, distinct, AreRecipients};
 
 use crate::address::Address;
 use crate::kept::Kept;
@@ -44,17 +44,38 @@ impl Recipients {
         }
     }
 
+    /// Of addresses that are the same the first, in order. Each costs one look-up by hash. Where memory
+    /// runs out all are dropped.
+    pub fn from_addresses(alloc: Global, addresses: Vec<Address>) -> Result<Recipients, AllocError>
+        ensures { IfOk result (λ recipients. recipients ≡ distinct addresses.items) }
+    {
+        let mut recipients = Recipients::new(alloc);
+        recipients.add_all(addresses)?;
+        Ok(recipients)
+    }
+
     /// Adds the address at the end, and says whether it did: not where one that is the same stands,
     /// which then keeps its place and its spelling. It costs one look-up by hash; the first on a copy or
     /// on a part of a split hashes all that are there. Where memory runs out the list stays as it was,
     /// and the address is dropped.
     pub fn add(&mut self, address: Address) -> Result<bool, AllocError>
         ensures added { IfOk result (λ added. added ≡ not (has_same self.old address)) }
-        ensures list { IfOk result (λ added. self.new ≡ (if added then self.old ++ address ∷ [] else self.old)) }
+        ensures list { OnOk result (self.new ≡ with_address self.old address) }
         ensures err { OnErr result (self.new ≡ self.old) }
     {
         let _form = address.local();
         self.kept.add(address)
+    }
+
+    /// Adds the addresses at the end, one after another as `add` does. Where memory runs out those
+    /// before the one that had no room are added, and the rest are dropped.
+    pub fn add_all(&mut self, addresses: Vec<Address>) -> Result<(), AllocError>
+        ensures { OnOk result (self.new ≡ with_addresses self.old addresses.items) }
+    {
+        for address in addresses {
+            self.add(address)?;
+        }
+        Ok(())
     }
 
     /// How many there are.
@@ -102,6 +123,14 @@ impl Recipients {
         ensures form { AreRecipients self.now }
     {
         self.as_slice().iter()
+    }
+
+    /// All of them in order, moved and not copied.
+    pub fn into_vec(self, alloc: Global) -> Result<Vec<Address>, AllocError>
+        ensures { IfOk result (λ list. list.items ≡ self) }
+    {
+        let Recipients { kept } = self;
+        kept.into_list(alloc)
     }
 
     /// An equal list, in the same order and spelled alike. It takes memory once for the list and twice
