@@ -1,7 +1,8 @@
 //! Look-ups in a plan.
 use crate::texts::{ALL, ERROR, ROOT, SPOOL, STEP, assert_so, joined};
+use mj_address::Address;
 use mj_config::read_plan;
-use mj_plan::Plan;
+use mj_plan::{Mapping, Mappings, Plan};
 use std::alloc::Global;
 use std::process::Abort;
 use std::test::Fail;
@@ -55,5 +56,49 @@ fn check_names(rt: &impl Abort, plan: &Plan) {
 #[test]
 fn look_ups(rt: HostRuntime) -> Result<(), Fail> {
     check_names(&rt, &delivering_plan(rt.alloc())?);
+    Ok(())
+}
+
+/// Rows of the rewrite table, each told by its text, by its domain or by its target's local part.
+const REWRITES: &str =
+    "[[rewrite]]\nfrom = \"ann@example.org\"\nerror = \"before\"\n[[rewrite]]\ndomain = \"Example.org\"\nto_domain = \"host.test\"\n[[rewrite]]\nfrom = \"Ann@example.org\"\nerror = \"again\"\n[[rewrite]]\nfrom = \"bob@example.org\"\nto = [\"behind@b.test\"]\n[[rewrite]]\ndomain = \"example.org\"\nto_domain = \"again.test\"\n[[rewrite]]\nfrom = \"cid@Other.test\"\nto = [\"alone@b.test\", \"dee@b.test\"]\n[[rewrite]]\ndomain = \"last.test\"\nto_domain = \"end.test\"\n";
+
+/// What tells a row.
+fn told(mapping: &Mapping) -> &[u8] {
+    match mapping {
+        Mapping::Addresses { to, .. } => to.get(0).map_or(b"", |first| first.local()),
+        Mapping::Error { text, .. } => text.as_slice(),
+        Mapping::Host { to, .. } => to.as_slice(),
+    }
+}
+
+/// Addresses, and the row that is found for each: the first one from it or from its domain.
+const MAPPED: [(&str, Option<&str>); 9] = [
+    ("ann@example.org", Some("before")),
+    ("ANN@EXAMPLE.ORG", Some("before")),
+    ("bob@example.org", Some("host.test")),
+    ("someone@example.ORG", Some("host.test")),
+    ("Cid@other.test", Some("alone")),
+    ("dee@other.test", None),
+    ("ann@sub.example.org", None),
+    ("org@Last.Test", Some("end.test")),
+    ("last.test@b.test", None),
+];
+
+fn finds_mapping(mappings: &Mappings, address: &Address, want: Option<&str>) -> bool {
+    mappings.of(address).map(told) == want.map(str::as_bytes)
+}
+
+#[test]
+fn mappings(rt: HostRuntime) -> Result<(), Fail> {
+    let alloc = rt.alloc();
+    let text = joined(alloc, &[SPOOL, REWRITES, ROOT, ERROR])?;
+    let plan = read_plan(alloc, &text).ok().ok_or("no plan")?;
+    for (spelling, want) in MAPPED {
+        let address = Address::read(alloc, spelling.as_bytes())
+            .ok()
+            .ok_or("no address")?;
+        assert_so(&rt, finds_mapping(&plan.mappings, &address, want), spelling);
+    }
     Ok(())
 }

@@ -1,9 +1,10 @@
 //! The whole configuration.
-ghost use Rattle.std.specs.Prelude.{option_map, IfOk};
+ghost use Rattle.std.specs.Prelude.{option_map, Ok, IfOk};
 ghost use Rattle.mj_plan.specs.Sound.{IsSound};
 ghost use Rattle.toml.specs.View.{view, table_view};
+ghost use Rattle.mj_terms.specs.Answers.{◌>>=◌ as ◌then◌};
 ghost use Rattle.mj_config_walk.specs.Values.{Gives};
-ghost use Rattle.mj_config_walk.specs.Walk.{Answers, document, located, plan, plan_of_document, plan_of_text, processors_in, rewrite_of, spool_in};
+ghost use Rattle.mj_config_walk.specs.Walk.{Answers, document, located, plan, plan_of, plan_of_document, plan_of_text, processors_in, rewrite_of, spool_in};
 
 use crate::fault::fault_at;
 use crate::processors::processors_of;
@@ -12,7 +13,7 @@ use crate::spool::read_spool;
 use mj_config_values::{tables_or_none, value_at};
 use mj_config_walk::{PlanFault, PlanKind, Refusal, Spool};
 use mj_fields::Items;
-use mj_plan::{Mapping, Plan, Processor};
+use mj_plan::{Mappings, Plan, Processor};
 use std::alloc::Global;
 use toml::{Table, Value};
 
@@ -74,7 +75,20 @@ fn read_document(alloc: Global, document: &Table) -> Result<Plan, PlanFault>
 {
     let spool = spool_at(alloc, value_at(document, "spool"))?;
     let mappings = rewrite_at(alloc, value_at(document, "rewrite"))?;
-    let processors = processors_at(alloc, value_at(document, "processor"))?;
+    read_rest(alloc, spool, mappings, value_at(document, "processor"))
+}
+
+/// The plan of a spool and of mappings, with the processors of this value.
+fn read_rest(
+    alloc: Global,
+    spool: Spool,
+    mappings: Mappings,
+    value: Option<&Value>,
+) -> Result<Plan, PlanFault>
+    ensures { Answers result (processors_in (option_map (λ v. view v.now) value.entry) then
+        (λ processors. Ok (plan_of spool mappings processors))) }
+{
+    let processors = processors_at(alloc, value)?;
     Ok(Plan {
         host_name: spool.host_name,
         postmaster: spool.postmaster,
@@ -107,7 +121,7 @@ fn spool(alloc: Global, value: Option<&Value>) -> Result<Spool, Refusal>
     }
 }
 
-fn rewrite_at(alloc: Global, value: Option<&Value>) -> Result<Items<Mapping>, PlanFault>
+fn rewrite_at(alloc: Global, value: Option<&Value>) -> Result<Mappings, PlanFault>
     ensures { Answers result (located 0 0 (rewrite_of (option_map (λ v. view v.now) value.entry))) }
 {
     match rewrite(alloc, value) {

@@ -10,7 +10,7 @@ use mj_config_values::{
 };
 use mj_config_walk::{PlanKind, Refusal};
 use mj_fields::Items;
-use mj_plan::Mapping;
+use mj_plan::{Mapping, Mappings};
 use std::alloc::Global;
 use toml::{Table, Value};
 
@@ -21,11 +21,12 @@ const MAX_ROWS: usize = 1_000;
 const MAX_TARGETS: usize = 100;
 
 /// The mappings of the array `rewrite`, if there is one.
-pub(crate) fn rewrite(alloc: Global, value: Option<&Value>) -> Result<Items<Mapping>, Refusal>
+pub(crate) fn rewrite(alloc: Global, value: Option<&Value>) -> Result<Mappings, Refusal>
     ensures { Gives result (rewrite_of (option_map (λ v. view v.now) value.entry)) }
 {
     let rows = tables_or_none(alloc, MAX_ROWS, value)?;
-    mappings(alloc, rows.as_slice())
+    let mappings = mappings(alloc, rows.as_slice())?;
+    Ok(Mappings::new(alloc, mappings)?)
 }
 
 fn mappings(alloc: Global, rows: &[&Table]) -> Result<Items<Mapping>, Refusal>

@@ -4,6 +4,7 @@ pub mod Sorted
 pub mod SortedDocuments
 pub mod SortedNodes
 pub mod Sound
+pub mod SoundAddresses
 pub mod SoundConditions
 pub mod SoundMailets
 pub mod SoundMatchers

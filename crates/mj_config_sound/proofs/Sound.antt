@@ -38,6 +38,8 @@ processors_few read sorted =
 all_parts : (spool : Spool) (mappings : List Mapping) (processors : List Processor) → IsSpool spool → (nat_le (length mappings) 1_000 && list_all is_mapping mappings) ≡ true
     → AreFew processors → IsSound (plan_of spool mappings processors)
 all_parts spool mappings processors a b e = record {
+  host_name = a.host_name;
+  postmaster = a.postmaster;
   local_users = a.local_users;
   start = a.start;
   max_hops = a.max_hops;

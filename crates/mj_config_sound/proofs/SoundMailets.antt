@@ -1,6 +1,7 @@
 -- The mailets that a step is read to have their forms, and no remote delivery has a name that was taken.
 use Rattle.std.proofs.Common.{◌≡◌, ℕ, ◌≤◌, Bool, true, false, not, List, [], ◌∷◌, length, Option, Some, None, Ok, refl, ap, ◌∙◌, ◌&&◌, arith}
 use Rattle.std.specs.Prelude.{nat_le, codes}
+use Rattle.std.proofs.lemmas.Bool.{and_from}
 use Rattle.std.proofs.lemmas.Bool.Decides.{nat_tests}
 use Rattle.std.proofs.lemmas.List.Splits.{length-slice_split}
 use Rattle.std.proofs.lemmas.List.{length-map}
@@ -9,6 +10,7 @@ use Rattle.std.specs.Option.{option_map_or}
 use Rattle.std.specs.Str.{bytes_eq}
 use Rattle.toml.specs.Data.{Data, table, Members, no_members, member, get_member, is_before, is_sorted, members_are_sorted}
 use Rattle.mj_terms.specs.Text.{before, behind_byte, trimmed}
+use Rattle.mj_address.specs.Short.{is_short}
 use Rattle.mj_head.specs.Head.{is_field_name}
 use Rattle.mj_plan.specs.declared.mailet.MailetKind.{MailetKind}
 use Rattle.mj_plan.specs.declared.mailet.MailetKind.TheVariants.{ToProcessor, Null, SetMailAttribute, RemoveMailAttribute, RemoveAllMailAttributes, SetMimeHeader, RemoveMimeHeader, MailAttributesToMimeHeaders, AddSubjectPrefix, RecipientToLowerCase, PostmasterAlias, RecipientRewriteTable, Forward, Bounce, NotifyPostmaster, LocalDelivery, ToRepository, RemoteDelivery, Fail}
@@ -23,7 +25,8 @@ use Rattle.mj_config_walk.specs.Mailets.{param, formed_value, target_value, list
 use Rattle.mj_config_walk.specs.declared.classes.Class.{Class}
 use Rattle.mj_config_walk.specs.declared.classes.Class.TheVariants as class
 use Rattle.mj_config_walk.specs.Classes.{class_in, class_rows, of_class, of_known, mailet_of}
-use Rattle.mj_config_sound.proofs.Holds.{Holds, ok, err, bind, skip, checks, form_of, optional_of, maybe_of, each_of, each_text_of, each_long, weaken}
+use Rattle.mj_config_sound.proofs.Holds.{Holds, ok, err, bind, skip, checks, form_of, optional_of, maybe_of, each_of, each_text_of, each_long, weaken, both}
+use Rattle.mj_config_sound.proofs.SoundAddresses.{address_is_short}
 use Rattle.mj_config_sound.proofs.Sorted.{first_sorted, required_sorted}
 
 -- ---- Parameters
@@ -74,12 +77,13 @@ list_text_of value =
     skip (text value) (λ s.
     skip (formed is_filled (trimmed s)) (λ filled. ok (items filled) (some_items filled)))
 
-forward_param_of : (step : Members) → Holds (λ xs. has_items 500 xs ≡ true) (forward_param step)
+forward_param_of : (step : Members) → Holds (λ xs. (has_items 500 xs && list_all is_short xs) ≡ true) (forward_param step)
 forward_param_of step =
     skip (required (codes "forwardTo") step) (λ value.
     bind (list_text_of value) (λ names some.
-    bind (each_long address names) (λ xs long.
-    checks (nat_le (length xs) 500) TooMany xs (λ h. listed_by (length xs) 500 (omega arith) h))))
+    bind (both (each_long address names) (each_of is_short address address_is_short names)) (λ xs h.
+    let long = h.0 in
+    checks (nat_le (length xs) 500) TooMany xs (λ few. and_from (has_items 500 xs) (list_all is_short xs) (listed_by (length xs) 500 (omega arith) few) h.1))))
 
 -- ---- Attributes
 

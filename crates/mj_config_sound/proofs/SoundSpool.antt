@@ -6,24 +6,28 @@ use Rattle.std.specs.List.{list_all}
 use Rattle.toml.specs.Data.{Data, Items, Members, get_member}
 use Rattle.mj_address.specs.declared.fault.AddressFault.TheVariants.{LocalTooLong, BadLocal}
 use Rattle.mj_address.specs.Grammar.{is_dot_atom}
+use Rattle.mj_address.specs.Short.{is_short, is_short_domain}
 use Rattle.mj_time.specs.declared.moments.MomentFault.{MomentFault}
 use Rattle.mj_time.specs.Moment.{moment_of}
 use Rattle.mj_time.proofs.Bounds.{moment_small}
 use Rattle.mj_plan.specs.declared.plan.Mapping.{Mapping}
 use Rattle.mj_plan.specs.declared.plan.Mapping.TheVariants as mapping
 use Rattle.mj_plan.specs.Forms.{is_line}
-use Rattle.mj_plan.specs.Sound.{is_between, has_items, is_mapping, is_user}
+use Rattle.mj_plan.specs.Sound.{are_items, is_between, is_mapping, is_user}
 use Rattle.mj_config_walk.specs.declared.fault.PlanKind.{PlanKind}
 use Rattle.mj_config_walk.specs.declared.fault.PlanKind.TheVariants.{Missing, BadAddress, BadArgument, BadMoment, TooMany}
 use Rattle.mj_config_walk.specs.declared.spool.Spool.{Spool}
-use Rattle.mj_config_walk.specs.Values.{required, text, texts, number, whole, in_moment, address, domain, each, each_text, tables, in_address, local_part}
+use Rattle.mj_config_walk.specs.Values.{required, text, texts, number, whole, in_moment, address, domain, each, tables, in_address, local_part}
 use Rattle.mj_config_walk.specs.Walk.{table_or_none, moment_value, each_value, needed, owner_in, locals_in, bounds_in, spool_of, spool_in, tables_or_none, addresses_row, error_row, host_row, host_row_or_none, row_with, mapping_of, rewrite_of, targets}
 use Rattle.mj_config_sound.proofs.Holds.{Holds, ok, err, bind, skip, checks, each_text_of, form_of, optional_of}
+use Rattle.mj_config_sound.proofs.SoundAddresses.{address_is_short, address_value_is_short, domain_is_short, domain_value_is_short}
 
 -- ---- [spool]
 
--- the users, the moment, and the limit of hops
+-- the addresses, the users, the moment, and the limit of hops
 pub record IsSpool (spool : Spool) : Type 0 where
+  pub host_name : is_short_domain spool.host_name ≡ true
+  pub postmaster : is_short spool.postmaster ≡ true
   pub local_users : list_all is_user spool.local_users ≡ true
   pub start : spool.start < 4_133_980_800_000
   pub max_hops : is_between 1 1_000 spool.max_hops ≡ true
@@ -69,27 +73,43 @@ locals_in_of members =
     bind (skip (required (codes "local_users") members) users_of) (λ users h.
     ok (hosts, users) h))
 
+-- who the service is
+record IsOwner (owner : List ℕ × (List ℕ × List ℕ)) : Type 0 where
+  host_name : is_short_domain owner.0 ≡ true
+  postmaster : is_short owner.1 ≡ true
+
+owner_in_of : (members : Members) → Holds IsOwner (owner_in members)
+owner_in_of members =
+    bind (skip (required (codes "host_name") members) domain_value_is_short) (λ host_name h.
+    bind (skip (required (codes "postmaster") members) address_value_is_short) (λ postmaster k.
+    ok (host_name, postmaster) (record { host_name = h; postmaster = k })))
+
 spool_of_of : (members : Members) → Holds IsSpool (spool_of members)
 spool_of_of members =
-    skip (owner_in members) (λ owner.
+    bind (owner_in_of members) (λ owner owns.
     bind (locals_in_of members) (λ served users.
     bind (bounds_in_of members) (λ bounds h.
     ok (record { host_name = owner.0; postmaster = owner.1; local_hosts = served.0; local_users = served.1; start = bounds.0; max_hops = bounds.1 })
-    (record { local_users = users; start = h.start; max_hops = h.max_hops }))))
+    (record { host_name = owns.host_name; postmaster = owns.postmaster; local_users = users; start = h.start; max_hops = h.max_hops }))))
 
 pub spool_sound : (value : Option Data) → Holds IsSpool (spool_in value)
 spool_sound value = skip (table_or_none value) spool_of_of
 
 -- ---- [[rewrite]]
 
-some_targets : (n : ℕ) → nat_le n 100 ≡ true → nat_le 1 n ≡ true → is_between 1 100 n ≡ true
-some_targets n few some = rw (some, few)
+-- so many short ones at most
+record AreFew (to : List (List ℕ × List ℕ)) : Type 0 where
+  few : nat_le (length to) 100 ≡ true
+  short : list_all is_short to ≡ true
 
-targets_of : (to : Items) → Holds (λ to. has_items 100 to ≡ true) (targets to)
+some_targets : (to : List (List ℕ × List ℕ)) → AreFew to → nat_le 1 (length to) ≡ true → are_items is_short to ≡ true
+some_targets to h some = rw (some, h.few, h.short)
+
+targets_of : (to : Items) → Holds (λ to. are_items is_short to ≡ true) (targets to)
 targets_of to =
-    skip (each_text address to) (λ to.
-    bind (checks {Q = λ to. nat_le (length to) 100 ≡ true} (nat_le (length to) 100) TooMany to (λ h. h)) (λ to few.
-    checks (nat_le 1 (length to)) BadArgument to (λ some. some_targets (length to) few some)))
+    bind (each_text_of is_short address address_is_short to) (λ to short.
+    bind (checks {Q = AreFew} (nat_le (length to) 100) TooMany to (λ few. record { few = few; short = short })) (λ to h.
+    checks (nat_le 1 (length to)) BadArgument to (λ some. some_targets to h some)))
 
 addresses_row_of : (from to : Data) → Holds (λ m. is_mapping m ≡ true) (addresses_row from to)
 addresses_row_of from to =
@@ -110,7 +130,7 @@ host_row_of from to =
     skip (text from) (λ from.
     skip (text to) (λ to.
     skip (domain from) (λ from.
-    skip (domain to) (λ to. ok (mapping.Host from to) refl))))
+    bind (domain_is_short to) (λ to h. ok (mapping.Host from to) h))))
 
 host_row_or_none_of : (from to : Option Data) → Holds (λ m. is_mapping m ≡ true) (host_row_or_none from to)
 host_row_or_none_of (Some from) (Some to) = host_row_of from to

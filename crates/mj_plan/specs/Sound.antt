@@ -1,5 +1,5 @@
 -- When a plan keeps every form, limit and reference of the configuration. What is an address, a domain or a schedule
--- keeps its form by its type.
+-- keeps its form by its type; here it is said only that the addresses which stand in mails and notices are short.
 use Rattle.std.specs.Prelude.{◌≡◌, ℕ, suc, max, ◌*◌, ◌^◌, ◌<◌, ◌≤◌, nat_le, nat_lt, ◌==◌, Bool, true, not, ◌&&◌, ◌||◌, List, [], ◌∷◌, length, map, codes, Option, Some, None}
 use Rattle.std.specs.Ordering.{nat_cmp, is_lt}
 use Rattle.std.specs.Cmp.Lexicographic.{slice_cmp}
@@ -7,6 +7,7 @@ use Rattle.std.specs.List.{list_all, list_any, flat_map, filter_map, sum}
 use Rattle.std.specs.Option.{option_map_or}
 use Rattle.std.specs.Str.{bytes_eq}
 use Rattle.mj_address.specs.Grammar.{is_dot_atom}
+use Rattle.mj_address.specs.Short.{is_short, is_short_domain}
 use Rattle.mj_head.specs.Head.{is_field_name}
 use Rattle.mj_plan.specs.declared.condition.Condition.{Condition}
 use Rattle.mj_plan.specs.declared.condition.Condition.TheVariants as condition
@@ -148,7 +149,7 @@ is_mailet names (mailet.AddSubjectPrefix prefix) = is_line prefix
 is_mailet names mailet.RecipientToLowerCase = true
 is_mailet names mailet.PostmasterAlias = true
 is_mailet names mailet.RecipientRewriteTable = true
-is_mailet names (mailet.Forward to pass_through) = has_items 500 to
+is_mailet names (mailet.Forward to pass_through) = has_items 500 to && list_all is_short to
 is_mailet names (mailet.Bounce message pass_through) = is_line message
 is_mailet names (mailet.NotifyPostmaster pass_through) = true
 is_mailet names mailet.LocalDelivery = true
@@ -192,11 +193,11 @@ deliveries_of processors = flat_map (λ processor. filter_map (λ step. outgoing
 
 -- ---- Plans
 
--- 1 to 100 targets, or a text that failures give
+-- 1 to 100 targets, a text that failures give, or another host
 abbrev pub is_mapping : Mapping → Bool
-is_mapping (mapping.Addresses from to) = has_items 100 to
+is_mapping (mapping.Addresses from to) = are_items is_short to
 is_mapping (mapping.Error from text) = is_line text
-is_mapping (mapping.Host from to) = true
+is_mapping (mapping.Host from to) = is_short_domain to
 
 -- a user of the service is a local part (RFC 5321, 4.5.3.1.1)
 abbrev pub is_user : List ℕ → Bool
@@ -204,6 +205,8 @@ is_user name = nat_le (length name) 64 && is_dot_atom name
 
 -- A plan that keeps every form, limit and reference.
 pub record IsSound (plan : Plan) : Type 0 where
+  pub host_name : is_short_domain plan.host_name ≡ true
+  pub postmaster : is_short plan.postmaster ≡ true
   pub local_users : list_all is_user plan.local_users ≡ true
   -- until the end of the year 2100
   pub start : plan.start < 4_133_980_800_000

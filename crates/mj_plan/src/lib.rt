@@ -5,6 +5,7 @@ mod condition;
 mod forms;
 mod listed;
 mod mailet;
+mod mappings;
 mod matcher;
 mod plan;
 mod user;
@@ -16,6 +17,7 @@ pub use forms::{
 };
 pub use listed::{Copied, Listed};
 pub use mailet::{MailetKind, Named};
+pub use mappings::Mappings;
 pub use matcher::MatchExpr;
 pub use plan::{MailetRoute, Mapping, MatchRoute, Plan, Processor, Step};
 pub use user::User;

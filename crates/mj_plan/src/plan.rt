@@ -2,7 +2,7 @@ ghost use Rattle.std.specs.Prelude.{◌≡◌};
 ghost use Rattle.std.specs.Option.{option_copied};
 ghost use Rattle.mj_plan.specs.Lookups.{processor_named, schedule_in, schedule_named};
 
-use crate::{Listed, MailetKind, MatchExpr, User};
+use crate::{Listed, MailetKind, Mappings, MatchExpr, User};
 use mj_address::{Address, Domain};
 use mj_delays::Schedule;
 use mj_fields::{Bytes, Items};
@@ -19,7 +19,7 @@ pub struct Plan {
     pub start: u64,
     /// At so many hops a mail has looped.
     pub max_hops: u32,
-    pub mappings: Items<Mapping>,
+    pub mappings: Mappings,
     pub processors: Items<Processor>,
 }
 
