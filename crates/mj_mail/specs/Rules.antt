@@ -1,5 +1,9 @@
 -- The rules by which mails are carried: what one step makes of a mail, and what each set of rules owes.
-use Rattle.std.specs.Prelude.{◌≡◌, ℕ, ◌+◌, nat_le, Bool, true, ◌&&◌, if◌then◌else◌, List, [], ◌∷◌, length}
+use Rattle.std.specs.Prelude.{◌≡◌, ℕ, ◌+◌, nat_le, Bool, true, ◌&&◌, if◌then◌else◌, List, [], ◌∷◌, length, Option}
+use Rattle.std.specs.List.{list_all}
+use Rattle.std.specs.Option.{option_map_or}
+use Rattle.mj_address.specs.Grammar.{Mailbox}
+use Rattle.mj_address.specs.Short.{is_short}
 use Rattle.mj_head.specs.Head.{written}
 use Rattle.mj_mail.specs.declared.fact.Fact.{Fact}
 use Rattle.mj_mail.specs.declared.fact.Fact.TheVariants.{Deposit, Sent, Retry, Bounce, Dropped, FellOff, Looped, Overrun}
@@ -19,12 +23,19 @@ use Rattle.mj_mail.specs.Outcome.{nothing}
 abbrev pub has_recipients : List (List ℕ × List ℕ) → Bool
 has_recipients recipients = nat_le 1 (length recipients) && nat_le (length recipients) MAX_RECIPIENTS
 
+-- the sender is a short address, if there is one
+abbrev pub is_short_sender : Option Mailbox → Bool
+is_short_sender sender = option_map_or is_short sender true
+
 abbrev pub is_small_body : ℕ → Bool
 is_small_body bytes = nat_le bytes MAX_BODY
 
--- a mail that may be accepted: it has a recipient, and keeps the limits
+-- a mail that may be accepted: it has a recipient, its addresses are short, and it keeps the limits
 abbrev pub is_acceptable : NewMail → Bool
-is_acceptable new = has_recipients new.recipients && (nat_le (length (written new.head)) MAX_HEAD && is_small_body (length new.body))
+is_acceptable new =
+    has_recipients new.recipients
+    && (list_all is_short new.recipients
+    && (is_short_sender new.sender && (nat_le (length (written new.head)) MAX_HEAD && is_small_body (length new.body))))
 
 -- what one step makes of a mail, by rules with these meanings: nothing of one that isn't sound for them
 abbrev pub step_by : {R : Type 0} → (R → Mail → Bool) → (R → Mail → List Reply) → (R → Mail → List Reply → Outcome) → R → Mail → Outcome

@@ -5,6 +5,7 @@
 mod attribute_laws;
 mod attributes;
 mod fact;
+mod failure;
 mod limits;
 mod mail;
 mod name;
@@ -17,6 +18,7 @@ pub use attribute_laws::{
 };
 pub use attributes::{Attributes, MAX_ATTRIBUTES};
 pub use fact::{Fact, Outcome, Why};
+pub use failure::Failure;
 pub use limits::{MAX_BODY, MAX_DONE, MAX_ERROR, MAX_HEAD, MAX_PAYLOAD, MAX_RECIPIENTS};
 pub use mail::{Body, Mail, NewMail, Stage, copy_envelope, copy_message, copy_sender};
 pub use name::{Name, name_text, put_number};

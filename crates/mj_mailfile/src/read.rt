@@ -2,7 +2,9 @@ ghost use Rattle.std.specs.Prelude.{◌≡◌, ◌≤◌, ◌<◌, ◌+◌, ◌^
 ghost use Rattle.std.specs.Option.{option_copied};
 ghost use Rattle.mj_terms.specs.Text.{same_text, trim_back};
 ghost use Rattle.mj_head.specs.Head.{lines, head_of, written};
-ghost use Rattle.mj_mail.specs.Rules.{is_acceptable};
+ghost use Rattle.mj_mail.specs.Rules.{is_acceptable, is_short_sender};
+ghost use Rattle.mj_address.specs.Short.{is_short};
+ghost use Rattle.std.specs.List.{list_all};
 ghost use Rattle.mj_mailfile.specs.MailFile.{Gives, GivesBytes, GivesFound, IsEnd, IsRecipientLine, head_fault, behind_word as behind_word_of, before_bracket as before_bracket_of, bracketed as bracketed_of, mailbox, mail_file, mail_of, mail_with, message_behind, path_of, recipients_of, sender_of, with_recipient};
 
 use crate::MailFault;
@@ -43,6 +45,8 @@ fn read_mail(alloc: Global, bytes: &[u8]) -> Result<NewMail, MailFault>
     ensures exact { Gives result (mail_of bytes.now) }
     ensures some { IfOk result (λ mail. 1 ≤ length mail.recipients) }
     ensures few { IfOk result (λ mail. length mail.recipients ≤ MAX_RECIPIENTS) }
+    ensures short { IfOk result (λ mail. list_all is_short mail.recipients ≡ true) }
+    ensures short_sender { IfOk result (λ mail. is_short_sender mail.sender ≡ true) }
     ensures body { IfOk result (λ mail. length mail.body ≤ length bytes.now) }
     ensures head { IfOk result (λ mail. length (written mail.head) ≤ MAX_HEAD) }
 {
@@ -58,7 +62,8 @@ fn read_mail(alloc: Global, bytes: &[u8]) -> Result<NewMail, MailFault>
 
 /// The sender of the first line, which is without its end.
 fn read_sender(alloc: Global, line: &[u8]) -> Result<Option<Address>, MailFault>
-    ensures { Gives result (sender_of line.now) }
+    ensures exact { Gives result (sender_of line.now) }
+    ensures short { IfOk result (λ sender. is_short_sender sender ≡ true) }
 {
     match behind_word(line, b"MAIL FROM:") {
         None => Err(MailFault::NoMailFrom),
@@ -69,14 +74,19 @@ fn read_sender(alloc: Global, line: &[u8]) -> Result<Option<Address>, MailFault>
     }
 }
 
+#[tactic(auto, using(mj_address::proofs::Short::short_address))]
 fn read_path(alloc: Global, path: &[u8]) -> Result<Option<Address>, MailFault>
-    ensures { Gives result (ok_or (path_of path.now) MailFault.BadSender) }
+    ensures exact { Gives result (ok_or (path_of path.now) MailFault.BadSender) }
+    ensures short { IfOk result (λ sender. is_short_sender sender ≡ true) }
 {
     if path.is_empty() {
         return Ok(None);
     }
     match Address::read(alloc, path) {
-        Ok(address) => Ok(Some(address)),
+        Ok(address) => {
+            let _form = address.local();
+            Ok(Some(address))
+        }
         Err(AddressFault::Memory) => Err(MailFault::Memory),
         Err(_) => Err(MailFault::BadSender),
     }
@@ -84,10 +94,12 @@ fn read_path(alloc: Global, path: &[u8]) -> Result<Option<Address>, MailFault>
 
 /// The recipients of the lines at the front of the bytes, the first of which is the second of the file, and the bytes
 /// behind them.
+#[tactic(auto, using(mj_address::proofs::Short::short_addresses))]
 fn read_recipients(alloc: Global, bytes: &[u8]) -> Result<(Recipients, &[u8]), MailFault>
     requires { length bytes.now ≤ MAX_FILE }
     ensures exact { GivesFound result (recipients_of 2 [] (lines bytes.now)) }
     ensures few { IfOk result (λ found. length found.0 ≤ MAX_RECIPIENTS) }
+    ensures short { IfOk result (λ found. list_all is_short found.0 ≡ true) }
     ensures rest { IfOk result (λ found. length found.1.now ≤ length bytes.now) }
 {
     let mut found = Recipients::new(alloc);
@@ -98,6 +110,7 @@ fn read_recipients(alloc: Global, bytes: &[u8]) -> Result<(Recipients, &[u8]), M
         rest = after;
         number += 1;
     }
+    let _form = found.len();
     Ok((found, rest))
 }
 
@@ -180,6 +193,7 @@ fn read_message(
     message: &[u8],
 ) -> Result<NewMail, MailFault>
     ensures exact { Gives result (mail_with sender recipients message.now (head_of message.now)) }
+    ensures sender { IfOk result (λ mail. mail.sender ≡ sender) }
     ensures recipients { IfOk result (λ mail. mail.recipients ≡ recipients) }
     ensures body { IfOk result (λ mail. length mail.body ≤ length message.now) }
     ensures head { IfOk result (λ mail. length (written mail.head) ≤ MAX_HEAD) }
