@@ -1,6 +1,6 @@
 -- What becomes of one recipient is what becomes of that recipient alone.
 use Rattle.std.proofs.Common.{◌≡◌, ◌∙◌, ℕ, ◌+◌, Bool, true, false, not, List, [], ◌∷◌, ◌++◌, length, map, Result, Ok, Err, refl, sym, ap, append-nil}
-use Rattle.std.specs.Prelude.{◌&&◌, if◌then◌else◌, filter}
+use Rattle.std.specs.Prelude.{nat_le, if◌then◌else◌, codes, filter}
 use Rattle.std.specs.List.{Contains, cons_option, filter_map}
 use Rattle.std.specs.Str.{bytes_eq}
 use Rattle.std.proofs.lemmas.Bool.{and_parts, false≢true}
@@ -8,6 +8,9 @@ use Rattle.std.proofs.lemmas.List.{length-map}
 use Rattle.std.proofs.lemmas.List.Elements.{filter_map-append}
 use Rattle.mj_address.specs.Same.{AreDifferent, same_address}
 use Rattle.mj_address.proofs.Different.{same_laws}
+use Rattle.mj_head.specs.Head.{RawField, written}
+use Rattle.mj_mail.specs.declared.attributes.TheConstants.{MAX_ATTRIBUTES}
+use Rattle.mj_mail.specs.declared.limits.TheConstants.{MAX_HEAD}
 use Rattle.mj_mail.specs.declared.fact.Fact.{Fact}
 use Rattle.mj_mail.specs.declared.fact.Fact.TheVariants.{Dropped, FellOff}
 use Rattle.mj_mail.specs.declared.fact.Outcome.{Outcome}
@@ -27,10 +30,10 @@ use Rattle.mj_container.specs.declared.service.Onward.TheVariants.{GoOn, Leave, 
 use Rattle.mj_container.specs.declared.service.Served.{Served}
 use Rattle.mj_container.specs.declared.service.Unserved.{Unserved}
 use Rattle.mj_container.specs.Alone.{IsAsAlone, alone, child_of, count, cut, fact_of, is_plain, is_plain_mailet, is_plain_matcher, is_plain_step, named, nameless, numberless, only, walk}
-use Rattle.mj_container.specs.Built.{is_built_mailet}
+use Rattle.mj_container.specs.Changes.{field_of, fields_from, with_each, with_prefix, without_each, without_fields}
 use Rattle.mj_container.specs.Matching.{Mailbox}
 use Rattle.mj_container.specs.Running.{both, failed, failed_at, gone, part, parted, run, served, settled, split}
-use Rattle.mj_container.specs.Serving.{ghost_state, leave, sent_to, serve}
+use Rattle.mj_container.specs.Serving.{fails, ghost_state, goes, leave, sent_to, serve, with_head}
 use Rattle.mj_container.specs.Verdict.{Verdict, Leaves, Takes, verdict}
 use Rattle.mj_container.proofs.Cut.{alone_in, kept, left_out, still_gone}
 use Rattle.mj_container.proofs.Plain.{verdict_same}
@@ -115,51 +118,70 @@ abbrev IsQuiet : Mail → Result Served Unserved → Type 0
 IsQuiet mail (Ok served) = IsQuietly mail served
 IsQuiet mail (Err unserved) = unserved.mail.recipients ≡ mail.recipients
 
-serve_restricts : (plan : Plan) (kind : MailetKind) (mail : Mail) (rs : List Mailbox) → is_plain_mailet kind ≡ true → is_built_mailet kind ≡ true
-    → serve plan kind (restrict mail rs) ≡ restricted rs (serve plan kind mail)
-serve_restricts plan (mailet.ToProcessor processor) mail rs p b = refl
-serve_restricts plan mailet.Null mail rs p b = refl
-serve_restricts plan (mailet.SetMailAttribute attributes) mail rs p b = absurd (false≢true b)
-serve_restricts plan (mailet.RemoveMailAttribute names) mail rs p b = absurd (false≢true b)
-serve_restricts plan mailet.RemoveAllMailAttributes mail rs p b = absurd (false≢true b)
-serve_restricts plan (mailet.SetMimeHeader header value) mail rs p b = absurd (false≢true b)
-serve_restricts plan (mailet.RemoveMimeHeader names) mail rs p b = absurd (false≢true b)
-serve_restricts plan (mailet.MailAttributesToMimeHeaders mapping) mail rs p b = absurd (false≢true b)
-serve_restricts plan (mailet.AddSubjectPrefix prefix) mail rs p b = absurd (false≢true b)
-serve_restricts plan mailet.RecipientToLowerCase mail rs p b = absurd (false≢true b)
-serve_restricts plan mailet.PostmasterAlias mail rs p b = absurd (false≢true b)
-serve_restricts plan mailet.RecipientRewriteTable mail rs p b = absurd (false≢true b)
-serve_restricts plan (mailet.Forward to pass_through) mail rs p b = absurd (false≢true b)
-serve_restricts plan (mailet.Bounce message pass_through) mail rs p b = absurd (false≢true b)
-serve_restricts plan (mailet.NotifyPostmaster pass_through) mail rs p b = absurd (false≢true b)
-serve_restricts plan mailet.LocalDelivery mail rs p b = absurd (false≢true b)
-serve_restricts plan (mailet.ToRepository path pass_through) mail rs p b = absurd (false≢true p)
-serve_restricts plan (mailet.RemoteDelivery outgoing schedule gateway bounce_processor) mail rs p b = absurd (false≢true b)
-serve_restricts plan (mailet.Fail text) mail rs p b = refl
+-- a mail that goes on changed, or fails
+changed_restricts : (mail next : Mail) (rs : List Mailbox) (text : List ℕ) (b : Bool)
+    → (if b then goes (GoOn (restrict next rs)) else fails text (restrict mail rs)) ≡ restricted rs (if b then goes (GoOn next) else fails text mail)
+changed_restricts mail next rs text true = refl
+changed_restricts mail next rs text false = refl
 
-leaves_quietly : (state : List ℕ) (mail : Mail) → IsQuiet mail (Ok (record { facts = []; children = []; onward = Leave mail state }))
-leaves_quietly state mail = record { facts = refl; children = refl; onward = refl }
+headed_restricts : (mail : Mail) (rs : List Mailbox) (head : List RawField) → with_head (restrict mail rs) head ≡ restricted rs (with_head mail head)
+headed_restricts mail rs head = changed_restricts mail (record mail { head = head }) rs (codes "HeadTooLong") (nat_le (length (written head)) MAX_HEAD)
 
-serve_quiet : (plan : Plan) (kind : MailetKind) (mail : Mail) → is_plain_mailet kind ≡ true → is_built_mailet kind ≡ true → IsQuiet mail (serve plan kind mail)
-serve_quiet plan (mailet.ToProcessor processor) mail p b = leaves_quietly processor mail
-serve_quiet plan mailet.Null mail p b = leaves_quietly ghost_state mail
-serve_quiet plan (mailet.SetMailAttribute attributes) mail p b = absurd (false≢true b)
-serve_quiet plan (mailet.RemoveMailAttribute names) mail p b = absurd (false≢true b)
-serve_quiet plan mailet.RemoveAllMailAttributes mail p b = absurd (false≢true b)
-serve_quiet plan (mailet.SetMimeHeader header value) mail p b = absurd (false≢true b)
-serve_quiet plan (mailet.RemoveMimeHeader names) mail p b = absurd (false≢true b)
-serve_quiet plan (mailet.MailAttributesToMimeHeaders mapping) mail p b = absurd (false≢true b)
-serve_quiet plan (mailet.AddSubjectPrefix prefix) mail p b = absurd (false≢true b)
-serve_quiet plan mailet.RecipientToLowerCase mail p b = absurd (false≢true b)
-serve_quiet plan mailet.PostmasterAlias mail p b = absurd (false≢true b)
-serve_quiet plan mailet.RecipientRewriteTable mail p b = absurd (false≢true b)
-serve_quiet plan (mailet.Forward to pass_through) mail p b = absurd (false≢true b)
-serve_quiet plan (mailet.Bounce message pass_through) mail p b = absurd (false≢true b)
-serve_quiet plan (mailet.NotifyPostmaster pass_through) mail p b = absurd (false≢true b)
-serve_quiet plan mailet.LocalDelivery mail p b = absurd (false≢true b)
-serve_quiet plan (mailet.ToRepository path pass_through) mail p b = absurd (false≢true p)
-serve_quiet plan (mailet.RemoteDelivery outgoing schedule gateway bounce_processor) mail p b = absurd (false≢true b)
-serve_quiet plan (mailet.Fail text) mail p b = refl
+serve_restricts : (plan : Plan) (kind : MailetKind) (mail : Mail) (rs : List Mailbox) → is_plain_mailet kind ≡ true → serve plan kind (restrict mail rs) ≡ restricted rs (serve plan kind mail)
+serve_restricts plan (mailet.ToProcessor processor) mail rs p = refl
+serve_restricts plan mailet.Null mail rs p = refl
+serve_restricts plan (mailet.SetMailAttribute attributes) mail rs p =
+    let new = with_each attributes mail.attributes in
+    changed_restricts mail (record mail { attributes = new }) rs (codes "TooManyAttributes") (nat_le (length new) MAX_ATTRIBUTES)
+serve_restricts plan (mailet.RemoveMailAttribute names) mail rs p = refl
+serve_restricts plan mailet.RemoveAllMailAttributes mail rs p = refl
+serve_restricts plan (mailet.SetMimeHeader name value) mail rs p = headed_restricts mail rs (mail.head ++ field_of name value ∷ [])
+serve_restricts plan (mailet.RemoveMimeHeader names) mail rs p = refl
+serve_restricts plan (mailet.MailAttributesToMimeHeaders mapping) mail rs p = headed_restricts mail rs (mail.head ++ fields_from mapping mail.attributes)
+serve_restricts plan (mailet.AddSubjectPrefix prefix) mail rs p = headed_restricts mail rs (with_prefix prefix mail.head)
+serve_restricts plan mailet.RecipientToLowerCase mail rs p = absurd (false≢true p)
+serve_restricts plan mailet.PostmasterAlias mail rs p = absurd (false≢true p)
+serve_restricts plan mailet.RecipientRewriteTable mail rs p = absurd (false≢true p)
+serve_restricts plan (mailet.Forward to pass_through) mail rs p = absurd (false≢true p)
+serve_restricts plan (mailet.Bounce message pass_through) mail rs p = absurd (false≢true p)
+serve_restricts plan (mailet.NotifyPostmaster pass_through) mail rs p = absurd (false≢true p)
+serve_restricts plan mailet.LocalDelivery mail rs p = absurd (false≢true p)
+serve_restricts plan (mailet.ToRepository path pass_through) mail rs p = absurd (false≢true p)
+serve_restricts plan (mailet.RemoteDelivery outgoing schedule gateway bounce_processor) mail rs p = absurd (false≢true p)
+serve_restricts plan (mailet.Fail text) mail rs p = refl
+
+quietly : (mail : Mail) (onward : Onward) → GoesWith mail onward → IsQuiet mail (goes onward)
+quietly mail onward same = record { facts = refl; children = refl; onward = same }
+
+changed_quietly : (mail next : Mail) (text : List ℕ) (b : Bool) → next.recipients ≡ mail.recipients → IsQuiet mail (if b then goes (GoOn next) else fails text mail)
+changed_quietly mail next text true same = quietly mail (GoOn next) same
+changed_quietly mail next text false same = refl
+
+headed_quietly : (mail : Mail) (head : List RawField) → IsQuiet mail (with_head mail head)
+headed_quietly mail head = changed_quietly mail (record mail { head = head }) (codes "HeadTooLong") (nat_le (length (written head)) MAX_HEAD) refl
+
+serve_quiet : (plan : Plan) (kind : MailetKind) (mail : Mail) → is_plain_mailet kind ≡ true → IsQuiet mail (serve plan kind mail)
+serve_quiet plan (mailet.ToProcessor processor) mail p = quietly mail (Leave mail processor) refl
+serve_quiet plan mailet.Null mail p = quietly mail (Leave mail ghost_state) refl
+serve_quiet plan (mailet.SetMailAttribute attributes) mail p =
+    let new = with_each attributes mail.attributes in
+    changed_quietly mail (record mail { attributes = new }) (codes "TooManyAttributes") (nat_le (length new) MAX_ATTRIBUTES) refl
+serve_quiet plan (mailet.RemoveMailAttribute names) mail p = quietly mail (GoOn (record mail { attributes = without_each names mail.attributes })) refl
+serve_quiet plan mailet.RemoveAllMailAttributes mail p = quietly mail (GoOn (record mail { attributes = [] })) refl
+serve_quiet plan (mailet.SetMimeHeader name value) mail p = headed_quietly mail (mail.head ++ field_of name value ∷ [])
+serve_quiet plan (mailet.RemoveMimeHeader names) mail p = quietly mail (GoOn (record mail { head = without_fields names mail.head })) refl
+serve_quiet plan (mailet.MailAttributesToMimeHeaders mapping) mail p = headed_quietly mail (mail.head ++ fields_from mapping mail.attributes)
+serve_quiet plan (mailet.AddSubjectPrefix prefix) mail p = headed_quietly mail (with_prefix prefix mail.head)
+serve_quiet plan mailet.RecipientToLowerCase mail p = absurd (false≢true p)
+serve_quiet plan mailet.PostmasterAlias mail p = absurd (false≢true p)
+serve_quiet plan mailet.RecipientRewriteTable mail p = absurd (false≢true p)
+serve_quiet plan (mailet.Forward to pass_through) mail p = absurd (false≢true p)
+serve_quiet plan (mailet.Bounce message pass_through) mail p = absurd (false≢true p)
+serve_quiet plan (mailet.NotifyPostmaster pass_through) mail p = absurd (false≢true p)
+serve_quiet plan mailet.LocalDelivery mail p = absurd (false≢true p)
+serve_quiet plan (mailet.ToRepository path pass_through) mail p = absurd (false≢true p)
+serve_quiet plan (mailet.RemoteDelivery outgoing schedule gateway bounce_processor) mail p = absurd (false≢true p)
+serve_quiet plan (mailet.Fail text) mail p = refl
 
 -- what is served quietly comes to where it goes
 came_to : (facts : List Fact) (children : List Mail) (o : Outcome) → facts ≡ [] → children ≡ []
@@ -199,20 +221,20 @@ module _ (r : Mailbox) (all single : Mail → Outcome) (a : IsAlone r all single
   settled_gone route mail (Ok s) q h = ap (only r) (came_to s.facts s.children (gone all s.onward) q.facts q.children) ∙ onward_gone mail s.onward q.onward h
   settled_gone route mail (Err unserved) q h = failed_gone route unserved (ap (cut r) q ∙ h)
 
-  served_alone : (plan : Plan) (step : Step) → is_plain_mailet step.mailet ≡ true → is_built_mailet step.mailet ≡ true
+  served_alone : (plan : Plan) (step : Step) → is_plain_mailet step.mailet ≡ true
       → IsAlone r (served plan name number step all) (served plan name number step single)
-  served_alone plan step p b = record {
-    one = λ mail h. settled_one step.on_mailet mail (serve plan step.mailet mail) (serve_quiet plan step.mailet mail p b) h
-        ∙ ap (settled step.on_mailet name number single) (sym (serve_restricts plan step.mailet mail (r ∷ []) p b));
-    gone = λ mail h. settled_gone step.on_mailet mail (serve plan step.mailet mail) (serve_quiet plan step.mailet mail p b) h;
+  served_alone plan step p = record {
+    one = λ mail h. settled_one step.on_mailet mail (serve plan step.mailet mail) (serve_quiet plan step.mailet mail p) h
+        ∙ ap (settled step.on_mailet name number single) (sym (serve_restricts plan step.mailet mail (r ∷ []) p));
+    gone = λ mail h. settled_gone step.on_mailet mail (serve plan step.mailet mail) (serve_quiet plan step.mailet mail p) h;
   }
 
 -- ---- A step
 
 module _ (r : Mailbox) (all single : Mail → Outcome) (a : IsAlone r all single) (plan : Plan) (name : List ℕ) (number : ℕ) (step : Step)
-    (p : is_plain_mailet step.mailet ≡ true) (b : is_built_mailet step.mailet ≡ true) where
+    (p : is_plain_mailet step.mailet ≡ true) where
   serving : IsAlone r (served plan name number step all) (served plan name number step single)
-  serving = served_alone r all single a name number plan step p b
+  serving = served_alone r all single a name number plan step p
 
   hit_one : (mail : Mail) (hs ms : List Mailbox) (t : Bool) → (t ≡ true → cut r hs ≡ r ∷ []) → (t ≡ true → cut r ms ≡ []) → (t ≡ false → cut r hs ≡ [])
       → (t ≡ false → cut r ms ≡ r ∷ []) → cut r mail.recipients ≡ r ∷ []
@@ -254,13 +276,11 @@ module _ (r : Mailbox) (all single : Mail → Outcome) (a : IsAlone r all single
 record IsPlainStep (step : Step) : Type 0 where
   matcher : is_plain_matcher step.matcher ≡ true
   mailet : is_plain_mailet step.mailet ≡ true
-  built : is_built_mailet step.mailet ≡ true
 
 plain_parts : (step : Step) → is_plain_step step ≡ true → IsPlainStep step
 plain_parts step h =
-    let all = and_parts (is_plain_matcher step.matcher) (is_plain_mailet step.mailet && is_built_mailet step.mailet) h in
-    let kind = and_parts (is_plain_mailet step.mailet) (is_built_mailet step.mailet) all.1 in
-    record { matcher = all.0; mailet = kind.0; built = kind.1 }
+    let parts = and_parts (is_plain_matcher step.matcher) (is_plain_mailet step.mailet) h in
+    record { matcher = parts.0; mailet = parts.1 }
 
 run_alone : (plan : Plan) (r : Mailbox) (name : List ℕ) (number : ℕ) (steps : List Step) → is_plain steps ≡ true → IsAlone r (run plan name number steps) (alone plan name number steps r)
 run_alone plan r name number [] h = fell_off_alone r name
@@ -269,9 +289,9 @@ run_alone plan r name number (step ∷ steps) h =
     let here = plain_parts step parts.0 in
     let rest = run_alone plan r name (number + 1) steps parts.1 in
     record {
-      one = λ mail c. split_one r (run plan name (number + 1) steps) (alone plan name (number + 1) steps r) rest plan name number step here.mailet here.built mail (verdict plan step mail) c
+      one = λ mail c. split_one r (run plan name (number + 1) steps) (alone plan name (number + 1) steps r) rest plan name number step here.mailet mail (verdict plan step mail) c
           ∙ ap (walk plan name number step (alone plan name (number + 1) steps r) r (restrict mail (r ∷ []))) (sym (verdict_same plan step mail (r ∷ []) here.matcher));
-      gone = λ mail c. split_gone r (run plan name (number + 1) steps) (alone plan name (number + 1) steps r) rest plan name number step here.mailet here.built mail (verdict plan step mail) c;
+      gone = λ mail c. split_gone r (run plan name (number + 1) steps) (alone plan name (number + 1) steps r) rest plan name number step here.mailet mail (verdict plan step mail) c;
     }
 
 -- ---- One fact or child
@@ -295,7 +315,7 @@ module _ (on : Mail → Outcome) (single : (mail : Mail) → count (on mail) ≡
   settled_count route mail (Err unserved) q = failed_count route unserved
 
   hit_count : (plan : Plan) (step : Step) (mail : Mail) (t : Bool) → IsPlainStep step → count (if t then served plan name number step on mail else on mail) ≡ 1
-  hit_count plan step mail true here = settled_count step.on_mailet mail (serve plan step.mailet mail) (serve_quiet plan step.mailet mail here.mailet here.built)
+  hit_count plan step mail true here = settled_count step.on_mailet mail (serve plan step.mailet mail) (serve_quiet plan step.mailet mail here.mailet)
   hit_count plan step mail false here = single mail
 
   walk_count : (plan : Plan) (step : Step) (r : Mailbox) (mail : Mail) (v : Verdict) → IsPlainStep step → count (walk plan name number step on r mail v) ≡ 1

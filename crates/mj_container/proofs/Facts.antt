@@ -6,15 +6,17 @@ use Rattle.std.specs.Str.{bytes_eq}
 use Rattle.std.proofs.lemmas.Bool.{and_parts}
 use Rattle.std.proofs.lemmas.Cmp.{nat_list_eq_equiv}
 use Rattle.std.proofs.lemmas.Bool.Decides.{nat_tests}
+use Rattle.mj_address.specs.Short.{is_short}
 use Rattle.mj_head.specs.Head.{written}
 use Rattle.mj_mail.specs.declared.limits.TheConstants.{MAX_ERROR, MAX_HEAD}
 use Rattle.mj_mail.specs.declared.mail.Mail.{Mail}
 use Rattle.mj_mail.specs.declared.mail.Stage.TheVariants.{Process}
 use Rattle.mj_mail.specs.Mail.{body_len}
-use Rattle.mj_mail.specs.Rules.{has_recipients, is_small_body}
+use Rattle.mj_mail.specs.Rules.{has_recipients, is_short_sender, is_small_body}
 use Rattle.mj_plan.specs.declared.plan.Plan.{Plan}
 use Rattle.mj_plan.specs.declared.plan.Processor.{Processor}
 use Rattle.mj_plan.specs.Lookups.{processor_named}
+use Rattle.mj_plan.specs.Forms.{has_length}
 use Rattle.mj_container.specs.Sound.{are_attributes, keeps_limits, latest, may_stand, measure, names_processor}
 
 pub both_true : (a b : Bool) → a ≡ true → b ≡ true → (a && b) ≡ true
@@ -28,11 +30,17 @@ pub record Waits (plan : Plan) (state : List ℕ) (mail : Mail) : Type 0 where
   pub due : mail.due ≤ latest mail.hops
   pub path : length mail.name.path + measure mail ≤ 102_203
 
-le_of : (m n : ℕ) → nat_le m n ≡ true → m ≤ n
+pub le_of : (m n : ℕ) → nat_le m n ≡ true → m ≤ n
 le_of m n h = grind (arith, nat_tests, h)
 
-of_le : (m n : ℕ) → m ≤ n → nat_le m n ≡ true
+pub of_le : (m n : ℕ) → m ≤ n → nat_le m n ≡ true
 of_le m n h = grind (arith, nat_tests, h)
+
+-- a text of a form has no more bytes than the form allows
+pub shorter : (test : ℕ → Bool) (least most : ℕ) (text : List ℕ) → (has_length least most text && list_all test text) ≡ true → length text ≤ most
+shorter test least most text h =
+    let long = (and_parts (has_length least most text) (list_all test text) h).0 in
+    le_of (length text) most (and_parts (nat_le least (length text)) (nat_le (length text) most) long).1
 
 pub waits : (plan : Plan) (state : List ℕ) (mail : Mail) → (keeps_limits mail && may_stand plan (Process state) mail) ≡ true → Waits plan state mail
 waits plan state mail h =
@@ -65,6 +73,8 @@ waits_sound plan state mail w =
 -- what a mail carries, part by part
 pub record Limits (mail : Mail) : Type 0 where
   pub recipients : has_recipients mail.recipients ≡ true
+  pub short : list_all is_short mail.recipients ≡ true
+  pub sender : is_short_sender mail.sender ≡ true
   pub attributes : are_attributes mail.attributes ≡ true
   pub error : nat_le (length mail.error) MAX_ERROR ≡ true
   pub head : nat_le (length (written mail.head)) MAX_HEAD ≡ true
@@ -75,12 +85,24 @@ limits_of mail h =
     let body = is_small_body (body_len mail.body) in
     let head = nat_le (length (written mail.head)) MAX_HEAD in
     let error = nat_le (length mail.error) MAX_ERROR in
-    let attributes = are_attributes mail.attributes in
-    let all = and_parts (has_recipients mail.recipients) (attributes && (error && (head && body))) h in
-    let rest = and_parts attributes (error && (head && body)) all.1 in
+    let others = are_attributes mail.attributes && (error && (head && body)) in
+    let sender = is_short_sender mail.sender in
+    let short = list_all is_short mail.recipients in
+    let all = and_parts (has_recipients mail.recipients) (short && (sender && others)) h in
+    let addresses = and_parts short (sender && others) all.1 in
+    let front = and_parts sender others addresses.1 in
+    let rest = and_parts (are_attributes mail.attributes) (error && (head && body)) front.1 in
     let last = and_parts error (head && body) rest.1 in
     let message = and_parts head body last.1 in
-    record { recipients = all.0; attributes = rest.0; error = last.0; head = message.0; body = message.1 }
+    record {
+      recipients = all.0;
+      short = addresses.0;
+      sender = front.0;
+      attributes = rest.0;
+      error = last.0;
+      head = message.0;
+      body = message.1;
+    }
 
 pub limits_kept : (mail : Mail) → Limits mail → keeps_limits mail ≡ true
 limits_kept mail l =
@@ -88,8 +110,12 @@ limits_kept mail l =
     let head = nat_le (length (written mail.head)) MAX_HEAD in
     let error = nat_le (length mail.error) MAX_ERROR in
     let attributes = are_attributes mail.attributes in
-    both_true (has_recipients mail.recipients) (attributes && (error && (head && body))) l.recipients
-    (both_true attributes (error && (head && body)) l.attributes (both_true error (head && body) l.error (both_true head body l.head l.body)))
+    let others = attributes && (error && (head && body)) in
+    let sender = is_short_sender mail.sender in
+    both_true (has_recipients mail.recipients) (list_all is_short mail.recipients && (sender && others)) l.recipients
+    (both_true (list_all is_short mail.recipients) (sender && others) l.short
+    (both_true sender others l.sender
+    (both_true attributes (error && (head && body)) l.attributes (both_true error (head && body) l.error (both_true head body l.head l.body)))))
 
 -- ---- Processors by their names
 

@@ -3,11 +3,10 @@ use Rattle.std.proofs.Common.{◌≡◌, ◌∙◌, ℕ, suc, ◌+◌, ◌<◌, 
 use Rattle.std.specs.Prelude.{nat_le, ◌&&◌, if◌then◌else◌}
 use Rattle.std.specs.List.{AllByRecursion, list_all}
 use Rattle.std.proofs.lemmas.Bool.{and_parts}
-use Rattle.mj_head.specs.Head.{written}
 use Rattle.mj_mail.specs.declared.fact.Fact.{Fact}
 use Rattle.mj_mail.specs.declared.fact.Fact.TheVariants.{Overrun}
 use Rattle.mj_mail.specs.declared.fact.Outcome.{Outcome}
-use Rattle.mj_mail.specs.declared.limits.TheConstants.{MAX_HEAD, MAX_PAYLOAD}
+use Rattle.mj_mail.specs.declared.limits.TheConstants.{MAX_PAYLOAD, MAX_RECIPIENTS}
 use Rattle.mj_mail.specs.declared.mail.Mail.{Mail}
 use Rattle.mj_mail.specs.declared.mail.NewMail.{NewMail}
 use Rattle.mj_mail.specs.declared.mail.Stage.{Stage}
@@ -23,9 +22,10 @@ use Rattle.mj_plan.specs.Sound.{IsSound}
 use Rattle.mj_container.specs.Built.{is_built}
 use Rattle.mj_container.specs.Running.{drafts, no_replies, step}
 use Rattle.mj_container.specs.Sound.{attempt_of, is_sound, keeps_limits, latest, may_stand, measure}
-use Rattle.mj_container.proofs.Facts.{both_true, Limits, Waits, limits_of, waits, waits_sound}
+use Rattle.mj_container.proofs.Facts.{both_true, Limits, Waits, le_of, limits_of, waits, waits_sound}
 use Rattle.mj_container.proofs.Stays.{drafts_some}
-use Rattle.mj_container.proofs.Steps.{IsKept, IsLawful, IsSent, IsYoung, drafts_lawful, drafts_young}
+use Rattle.mj_container.proofs.Services.{IsKept, IsLawful, IsSent, formed_mappings}
+use Rattle.mj_container.proofs.Steps.{IsYoung, drafts_lawful, drafts_young}
 
 -- ---- Children by what holds of each before and behind its numbering
 
@@ -130,8 +130,11 @@ module _ (plan : Plan) (sound : IsSound plan) (mail : Mail) (h : is_sound plan m
   limits : keeps_limits mail ≡ true
   limits = (and_parts (keeps_limits mail) (may_stand plan mail.stage mail) h).0
 
+  some_recipients : 1 ≤ length mail.recipients
+  some_recipients = le_of 1 (length mail.recipients) (and_parts (nat_le 1 (length mail.recipients)) (nat_le (length mail.recipients) MAX_RECIPIENTS) (limits_of mail limits).recipients).0
+
   lawful : IsLawful plan mail (drafts plan mail.stage mail)
-  lawful = drafts_lawful plan mail mail.stage sound limits
+  lawful = drafts_lawful plan sound mail mail.stage limits
 
   young : IsYoung mail (drafts plan mail.stage mail)
   young = drafts_young plan mail.stage mail sound
@@ -149,7 +152,7 @@ module _ (plan : Plan) (sound : IsSound plan) (mail : Mail) (h : is_sound plan m
       → 1 ≤ length (numbered (drafts plan stage mail)).facts + length (numbered (drafts plan stage mail)).children
   some_at (Process state) built s =
       let w = waits plan state mail s in
-      omega (arith, drafts_some plan state mail built w.named, numbered_length 1 (drafts plan (Process state) mail).children)
+      omega (arith, drafts_some plan (formed_mappings plan sound) state mail some_recipients built w.named, numbered_length 1 (drafts plan (Process state) mail).children)
   some_at (Remote delivery host attempt) built s = let no : false ≡ true = (and_parts (keeps_limits mail) false s).1 in cc
 
   path_at : (stage : Stage) → (keeps_limits mail && may_stand plan stage mail) ≡ true → length mail.name.path ≤ 102_203
@@ -187,9 +190,8 @@ module _ (plan : Plan) (sound : IsSound plan) (mail : Mail) (h : is_sound plan m
 first_waits : (plan : Plan) → IsSound plan → (number : ℕ) (new : NewMail) → is_acceptable new ≡ true → Waits plan root (first plan.start number new)
 unfolding latest measure
 first_waits plan sound number new h =
-    let rest = and_parts (has_recipients new.recipients) (nat_le (length (written new.head)) MAX_HEAD && is_small_body (length new.body)) h in
     record {
-      limits = rw (rest.0, rest.1);
+      limits = h;
       named = sound.root;
       hops = omega arith;
       due = let start = sound.start in omega arith;

@@ -1,7 +1,13 @@
 pub mod Matchers
 pub mod Facts
+pub mod Changes
+pub mod Expansions
+pub mod DateTexts
+pub mod Notices
+pub mod Services
 pub mod Steps
 pub mod Stays
+pub mod Fit
 pub mod Laws
 pub mod Cut
 pub mod Plain

@@ -1,12 +1,18 @@
 -- No mail vanishes: where the plan is built a step has a fact or a mail.
-use Rattle.std.proofs.Common.{◌≡◌, ◌∙◌, ℕ, ◌+◌, ◌≤◌, Bool, true, false, not, List, [], ◌∷◌, length, refl, sym, ap, arith, length-append, Option, Some, None}
-use Rattle.std.specs.Prelude.{nat_le, ◌||◌, if◌then◌else◌, filter}
+use Rattle.std.proofs.Common.{◌≡◌, ◌∙◌, ℕ, ◌+◌, ◌≤◌, Bool, true, false, not, List, [], ◌∷◌, ◌++◌, length, map, refl, sym, ap, arith, length-append, Option, Some, None, Ok, Err}
+use Rattle.std.specs.Prelude.{nat_le, ◌||◌, if◌then◌else◌, codes, filter}
 use Rattle.std.specs.List.{list_all, list_any}
 use Rattle.std.specs.Str.{bytes_eq}
-use Rattle.std.proofs.lemmas.Bool.{and_parts}
+use Rattle.std.proofs.lemmas.Bool.{and_parts, false≢true}
+use Rattle.std.proofs.lemmas.List.{length-map}
+use Rattle.mj_address.specs.Same.{distinct, with_lower_local}
+use Rattle.mj_head.specs.Head.{RawField, written}
+use Rattle.mj_mail.specs.declared.attributes.TheConstants.{MAX_ATTRIBUTES}
+use Rattle.mj_mail.specs.declared.limits.TheConstants.{MAX_HEAD, MAX_RECIPIENTS}
+use Rattle.mj_mail.specs.declared.fact.Fact.TheVariants as fact
 use Rattle.mj_mail.specs.declared.fact.Fact.TheVariants.{Dropped, Looped}
 use Rattle.mj_mail.specs.declared.fact.Outcome.{Outcome}
-use Rattle.mj_mail.specs.declared.fact.Why.TheVariants.{Discarded}
+use Rattle.mj_mail.specs.declared.fact.Why.TheVariants.{Discarded, NoReturnPath}
 use Rattle.mj_mail.specs.declared.mail.Mail.{Mail}
 use Rattle.mj_mail.specs.declared.mail.Stage.TheVariants.{Process}
 use Rattle.mj_mail.specs.Mail.{restrict}
@@ -19,15 +25,21 @@ use Rattle.mj_plan.specs.declared.plan.Plan.{Plan}
 use Rattle.mj_plan.specs.declared.plan.Processor.{Processor}
 use Rattle.mj_plan.specs.declared.plan.Step.{Step}
 use Rattle.mj_plan.specs.Lookups.{processor_named}
-use Rattle.mj_plan.specs.Sound.{names_of}
+use Rattle.mj_plan.specs.Sound.{is_mapping, names_of}
+use Rattle.mj_container.specs.declared.service.Onward.TheVariants.{GoOn}
 use Rattle.mj_container.specs.declared.service.Unserved.{Unserved}
 use Rattle.mj_container.specs.Built.{is_built, is_built_mailet, is_built_processor, is_built_step}
+use Rattle.mj_container.specs.Changes.{field_of, fields_from, postmaster_alias, with_each, with_prefix, without_each, without_fields}
+use Rattle.mj_container.specs.Expansion.{Expanded, fault_text, rewritten}
 use Rattle.mj_container.specs.Matching.{Mailbox}
-use Rattle.mj_container.specs.Running.{both, drafts, failed, failed_at, part, parted, run, run_in, served, settled, split}
-use Rattle.mj_container.specs.Serving.{ghost_state, leave, sent_to, serve}
+use Rattle.mj_container.specs.Running.{both, drafts, failed, failed_at, gone, part, parted, run, run_in, served, settled, split}
+use Rattle.mj_container.specs.Notices.{bounce_of, failures, postmaster_notice}
+use Rattle.mj_container.specs.Serving.{bounced, delivered, deposit, fails, forwarded, ghost_state, goes, leave, passed, sent_to, serve, with_head, with_rewritten}
 use Rattle.mj_container.specs.Sound.{names_processor}
 use Rattle.mj_container.specs.Verdict.{Verdict, Leaves, Takes, verdict}
-use Rattle.mj_container.proofs.Facts.{processor_passes, same_bytes}
+use Rattle.mj_container.proofs.Changes.{some_distinct}
+use Rattle.mj_container.proofs.Expansions.{AreRewritten, are_rewritten}
+use Rattle.mj_container.proofs.Facts.{le_of, processor_passes, same_bytes}
 
 abbrev pub parts_of : Outcome → ℕ
 parts_of outcome = length outcome.facts + length outcome.children
@@ -42,47 +54,83 @@ leave_some_by state mail false = omega arith
 leave_some : (state : List ℕ) (mail : Mail) → 1 ≤ parts_of (leave state mail)
 leave_some state mail = leave_some_by state mail (bytes_eq state ghost_state)
 
-module _ (plan : Plan) (name : List ℕ) (number : ℕ) (on : Mail → Outcome) (on_some : (mail : Mail) → 1 ≤ parts_of (on mail)) where
-  failed_some : (route : MailetRoute) (unserved : Unserved) → 1 ≤ parts_of (failed route name number on unserved)
-  failed_some on_mailet.Ignore unserved = on_some unserved.mail
-  failed_some (on_mailet.To state) unserved = leave_some state (record unserved.mail { error = failed_at name number unserved.text })
+module _ (plan : Plan) (formed : list_all is_mapping plan.mappings ≡ true) (name : List ℕ) (number : ℕ) (on : Mail → Outcome)
+    (on_some : (mail : Mail) → 1 ≤ length mail.recipients → 1 ≤ parts_of (on mail)) where
+  failed_some : (route : MailetRoute) (unserved : Unserved) → 1 ≤ length unserved.mail.recipients → 1 ≤ parts_of (failed route name number on unserved)
+  failed_some on_mailet.Ignore unserved some = on_some unserved.mail some
+  failed_some (on_mailet.To state) unserved some = leave_some state (record unserved.mail { error = failed_at name number unserved.text })
 
-  settled_some : (route : MailetRoute) (kind : MailetKind) (mail : Mail) → is_built_mailet kind ≡ true → 1 ≤ parts_of (settled route name number on (serve plan kind mail))
-  settled_some route (mailet.ToProcessor processor) mail h = leave_some processor mail
-  settled_some route mailet.Null mail h = leave_some ghost_state mail
-  settled_some route (mailet.SetMailAttribute attributes) mail h = cc
-  settled_some route (mailet.RemoveMailAttribute names) mail h = cc
-  settled_some route mailet.RemoveAllMailAttributes mail h = cc
-  settled_some route (mailet.SetMimeHeader header value) mail h = cc
-  settled_some route (mailet.RemoveMimeHeader names) mail h = cc
-  settled_some route (mailet.MailAttributesToMimeHeaders mapping) mail h = cc
-  settled_some route (mailet.AddSubjectPrefix prefix) mail h = cc
-  settled_some route mailet.RecipientToLowerCase mail h = cc
-  settled_some route mailet.PostmasterAlias mail h = cc
-  settled_some route mailet.RecipientRewriteTable mail h = cc
-  settled_some route (mailet.Forward to pass_through) mail h = cc
-  settled_some route (mailet.Bounce message pass_through) mail h = cc
-  settled_some route (mailet.NotifyPostmaster pass_through) mail h = cc
-  settled_some route mailet.LocalDelivery mail h = cc
-  settled_some route (mailet.ToRepository path pass_through) mail h = omega arith
-  settled_some route (mailet.RemoteDelivery outgoing schedule gateway bounce_processor) mail h = cc
-  settled_some route (mailet.Fail text) mail h = failed_some route (record { mail = mail; text = text })
+  -- a mail that goes on changed, or fails
+  changed_some : (route : MailetRoute) (mail next : Mail) (text : List ℕ) (b : Bool) → 1 ≤ length mail.recipients → 1 ≤ length next.recipients
+      → 1 ≤ parts_of (settled route name number on (if b then goes (GoOn next) else fails text mail))
+  changed_some route mail next text true some same = on_some next same
+  changed_some route mail next text false some same = failed_some route (record { mail = mail; text = text }) some
 
-  parted_some : (step : Step) (mail : Mail) (hits others : List Mailbox) → is_built_mailet step.mailet ≡ true → 1 ≤ parts_of (parted (served plan name number step on) on mail hits others)
-  parted_some step mail [] others h = on_some mail
-  parted_some step mail (r ∷ hits) others h =
+  headed_some : (route : MailetRoute) (mail : Mail) (head : List RawField) → 1 ≤ length mail.recipients → 1 ≤ parts_of (settled route name number on (with_head mail head))
+  headed_some route mail head some = changed_some route mail (record mail { head = head }) (codes "HeadTooLong") (nat_le (length (written head)) MAX_HEAD) some some
+
+  renamed_some : (f : Mailbox → Mailbox) (mail : Mail) → 1 ≤ length mail.recipients → 1 ≤ parts_of (on (restrict mail (distinct (map f mail.recipients))))
+  renamed_some f mail some =
+      on_some (restrict mail (distinct (map f mail.recipients))) (some_distinct (map f mail.recipients) (let e = length-map mail.recipients f in omega (arith, e, some)))
+
+  rewritten_some : (route : MailetRoute) (mail : Mail) (r : Expanded) → AreRewritten plan.mappings formed r → 1 ≤ length mail.recipients
+      → 1 ≤ parts_of (settled route name number on (with_rewritten mail r))
+  rewritten_some route mail (Ok recipients) h some =
+      on_some (restrict mail recipients) (le_of 1 (length recipients) (and_parts (nat_le 1 (length recipients)) (nat_le (length recipients) MAX_RECIPIENTS) h).0)
+  rewritten_some route mail (Err fault) h some = failed_some route (record { mail = mail; text = fault_text fault }) some
+
+  bounced_some : (route : MailetRoute) (pass_through : Bool) (mail : Mail) (notice : Option Mail) → 1 ≤ parts_of (settled route name number on (Ok (bounced pass_through mail notice)))
+  bounced_some route pass_through mail (Some notice) = let e = length-append (fact.Bounce mail.recipients ∷ []) (gone on (passed pass_through mail)).facts in omega (arith, e)
+  bounced_some route pass_through mail None = let e = length-append (Dropped NoReturnPath mail.recipients ∷ []) (gone on (passed pass_through mail)).facts in omega (arith, e)
+
+  settled_some : (route : MailetRoute) (kind : MailetKind) (mail : Mail) → is_built_mailet kind ≡ true → 1 ≤ length mail.recipients
+      → 1 ≤ parts_of (settled route name number on (serve plan kind mail))
+  settled_some route (mailet.ToProcessor processor) mail h some = leave_some processor mail
+  settled_some route mailet.Null mail h some = leave_some ghost_state mail
+  settled_some route (mailet.SetMailAttribute attributes) mail h some =
+      changed_some route mail (record mail { attributes = with_each attributes mail.attributes }) (codes "TooManyAttributes") (nat_le (length (with_each attributes mail.attributes)) MAX_ATTRIBUTES) some some
+  settled_some route (mailet.RemoveMailAttribute names) mail h some = on_some (record mail { attributes = without_each names mail.attributes }) some
+  settled_some route mailet.RemoveAllMailAttributes mail h some = on_some (record mail { attributes = [] }) some
+  settled_some route (mailet.SetMimeHeader field value) mail h some = headed_some route mail (mail.head ++ field_of field value ∷ []) some
+  settled_some route (mailet.RemoveMimeHeader names) mail h some = on_some (record mail { head = without_fields names mail.head }) some
+  settled_some route (mailet.MailAttributesToMimeHeaders mapping) mail h some = headed_some route mail (mail.head ++ fields_from mapping mail.attributes) some
+  settled_some route (mailet.AddSubjectPrefix prefix) mail h some = headed_some route mail (with_prefix prefix mail.head) some
+  settled_some route mailet.RecipientToLowerCase mail h some = renamed_some with_lower_local mail some
+  settled_some route mailet.PostmasterAlias mail h some = renamed_some (postmaster_alias plan) mail some
+  settled_some route mailet.RecipientRewriteTable mail h some =
+      rewritten_some route mail (rewritten plan.mappings mail.recipients) (are_rewritten plan.mappings formed mail.recipients some) some
+  settled_some route (mailet.Forward to pass_through) mail h some =
+      let e = length-append (forwarded (distinct to) mail ∷ []) (gone on (passed pass_through mail)).children in omega (arith, e)
+  settled_some route (mailet.Bounce message pass_through) mail h some = bounced_some route pass_through mail (bounce_of plan mail (failures message mail.recipients))
+  settled_some route (mailet.NotifyPostmaster pass_through) mail h some =
+      let e = length-append (postmaster_notice plan mail ∷ []) (gone on (passed pass_through mail)).children in omega (arith, e)
+  settled_some route mailet.LocalDelivery mail h some =
+      let facts = map (delivered mail) mail.recipients in
+      let e = length-append facts [] in
+      let f = length-map mail.recipients (delivered mail) in
+      omega (arith, e, f, some)
+  settled_some route (mailet.ToRepository path pass_through) mail h some =
+      let e = length-append (deposit path mail ∷ []) (gone on (passed pass_through mail)).facts in omega (arith, e)
+  settled_some route (mailet.RemoteDelivery outgoing schedule gateway bounce_processor) mail h some = absurd (false≢true h)
+  settled_some route (mailet.Fail text) mail h some = failed_some route (record { mail = mail; text = text }) some
+
+  parted_some : (step : Step) (mail : Mail) (hits others : List Mailbox) → is_built_mailet step.mailet ≡ true → 1 ≤ length mail.recipients
+      → 1 ≤ parts_of (parted (served plan name number step on) on mail hits others)
+  parted_some step mail [] others h some = on_some mail some
+  parted_some step mail (r ∷ hits) others h some =
       both_some (served plan name number step on (restrict mail (r ∷ hits))) (part on mail others)
-      (settled_some step.on_mailet step.mailet (restrict mail (r ∷ hits)) h)
+      (settled_some step.on_mailet step.mailet (restrict mail (r ∷ hits)) h (omega arith))
 
-  split_some : (step : Step) (mail : Mail) (v : Verdict) → is_built_mailet step.mailet ≡ true → 1 ≤ parts_of (split plan name number step on mail v)
-  split_some step mail (Leaves state reason) h = leave_some state (record mail { error = failed_at name number reason })
-  split_some step mail (Takes test) h = parted_some step mail (filter test mail.recipients) (filter (λ r. not (test r)) mail.recipients) h
+  split_some : (step : Step) (mail : Mail) (v : Verdict) → is_built_mailet step.mailet ≡ true → 1 ≤ length mail.recipients → 1 ≤ parts_of (split plan name number step on mail v)
+  split_some step mail (Leaves state reason) h some = leave_some state (record mail { error = failed_at name number reason })
+  split_some step mail (Takes test) h some = parted_some step mail (filter test mail.recipients) (filter (λ r. not (test r)) mail.recipients) h some
 
-run_some : (plan : Plan) (name : List ℕ) (number : ℕ) (steps : List Step) (mail : Mail) → list_all is_built_step steps ≡ true → 1 ≤ parts_of (run plan name number steps mail)
-run_some plan name number [] mail h = omega arith
-run_some plan name number (step ∷ steps) mail h =
+run_some : (plan : Plan) → list_all is_mapping plan.mappings ≡ true → (name : List ℕ) (number : ℕ) (steps : List Step) (mail : Mail) → list_all is_built_step steps ≡ true → 1 ≤ length mail.recipients
+    → 1 ≤ parts_of (run plan name number steps mail)
+run_some plan formed name number [] mail h some = omega arith
+run_some plan formed name number (step ∷ steps) mail h some =
     let first = and_parts (is_built_step step) (list_all is_built_step steps) h in
-    split_some plan name number (run plan name (number + 1) steps) (λ m. run_some plan name (number + 1) steps m first.1) step mail (verdict plan step mail) first.0
+    split_some plan formed name number (run plan name (number + 1) steps) (λ m filled. run_some plan formed name (number + 1) steps m first.1 filled) step mail (verdict plan step mail) first.0 some
 
 -- a processor of this name is found
 found_by : (state : List ℕ) (p : Processor) (rest : Option Processor) (b : Bool) → bytes_eq p.name state ≡ b → (b ≡ false → rest ≡ None → ⊥)
@@ -96,17 +144,17 @@ found state (p ∷ processors) some none =
     found_by state p (processor_named state processors) (bytes_eq p.name state) refl
     (λ other. found state processors (sym (ap (λ b. b || list_any (bytes_eq state) (names_of processors)) (same_bytes state p.name ∙ other)) ∙ some)) none
 
-run_in_some : (plan : Plan) (at : Option Processor) (mail : Mail) → (at ≡ None → ⊥) → ((p : Processor) → at ≡ Some p → is_built_processor p ≡ true) → 1 ≤ parts_of (run_in plan at mail)
-run_in_some plan None mail there built = absurd (there refl)
-run_in_some plan (Some p) mail there built = run_some plan p.name 1 p.steps mail (built p refl)
+run_in_some : (plan : Plan) → list_all is_mapping plan.mappings ≡ true → (at : Option Processor) (mail : Mail) → 1 ≤ length mail.recipients → (at ≡ None → ⊥) → ((p : Processor) → at ≡ Some p → is_built_processor p ≡ true) → 1 ≤ parts_of (run_in plan at mail)
+run_in_some plan formed None mail some there built = absurd (there refl)
+run_in_some plan formed (Some p) mail some there built = run_some plan formed p.name 1 p.steps mail (built p refl) some
 
 drafts_some_by : (plan : Plan) (at : Option Processor) (mail : Mail) (b : Bool) → 1 ≤ parts_of (run_in plan at mail)
     → 1 ≤ parts_of (if b then one_fact (Looped mail.recipients) else run_in plan at mail)
 drafts_some_by plan at mail true some = omega arith
 drafts_some_by plan at mail false some = some
 
-pub drafts_some : (plan : Plan) (state : List ℕ) (mail : Mail) → is_built plan ≡ true → names_processor plan state ≡ true → 1 ≤ parts_of (drafts plan (Process state) mail)
-drafts_some plan state mail built named =
+pub drafts_some : (plan : Plan) → list_all is_mapping plan.mappings ≡ true → (state : List ℕ) (mail : Mail) → 1 ≤ length mail.recipients → is_built plan ≡ true → names_processor plan state ≡ true → 1 ≤ parts_of (drafts plan (Process state) mail)
+drafts_some plan formed state mail some built named =
     let at = processor_named state plan.processors in
     drafts_some_by plan at mail (nat_le plan.max_hops mail.hops)
-    (run_in_some plan at mail (found state plan.processors named) (λ p here. processor_passes is_built_processor state plan.processors p here built))
+    (run_in_some plan formed at mail some (found state plan.processors named) (λ p here. processor_passes is_built_processor state plan.processors p here built))

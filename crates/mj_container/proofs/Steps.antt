@@ -1,29 +1,24 @@
 -- What a step of a sound mail under a sound plan gives: facts that keep the limits, and mails that are sent to processors
 -- of the plan.
-use Rattle.std.proofs.Common.{◌≡◌, ◌∙◌, ℕ, suc, ◌+◌, ◌<◌, ◌≤◌, Bool, true, false, not, List, [], ◌∷◌, ◌++◌, length, refl, sym, ap, subst, arith, length-append, Option, Some, None, Result, Ok, Err, ◌⊎◌, inl, inr}
+use Rattle.std.proofs.Common.{◌≡◌, ◌∙◌, ℕ, ◌+◌, ◌<◌, ◌≤◌, Bool, true, false, not, List, [], ◌∷◌, ◌++◌, length, refl, sym, ap, subst, arith, length-append, Option, Some, None, Result, Ok, Err, ◌⊎◌, inl, inr}
 use Rattle.std.specs.Prelude.{nat_le, ◌&&◌, ◌||◌, if◌then◌else◌, codes, filter}
 use Rattle.std.specs.Fmt.{decimal}
-use Rattle.std.specs.List.{AllByRecursion, list_all}
+use Rattle.std.specs.List.{list_all}
 use Rattle.std.specs.Str.{bytes_eq}
 use Rattle.std.proofs.lemmas.Bool.{and_parts}
 use Rattle.std.proofs.lemmas.Bool.Decides.{nat_tests}
 use Rattle.std.proofs.lemmas.Fmt.{length-decimal-le}
-use Rattle.mj_head.specs.Head.{written}
-use Rattle.mj_mail.specs.declared.fact.Fact.{Fact}
+use Rattle.mj_address.specs.Short.{is_short}
 use Rattle.mj_mail.specs.declared.fact.Fact.TheVariants.{Dropped, FellOff, Looped}
 use Rattle.mj_mail.specs.declared.fact.Outcome.{Outcome}
 use Rattle.mj_mail.specs.declared.fact.Why.TheVariants.{Discarded}
-use Rattle.mj_mail.specs.declared.limits.TheConstants.{MAX_ERROR, MAX_HEAD, MAX_RECIPIENTS}
-use Rattle.mj_mail.specs.declared.mail.Body.{Body}
-use Rattle.mj_mail.specs.declared.mail.Body.TheVariants.{Original, Made}
+use Rattle.mj_mail.specs.declared.limits.TheConstants.{MAX_RECIPIENTS}
 use Rattle.mj_mail.specs.declared.mail.Mail.{Mail}
 use Rattle.mj_mail.specs.declared.mail.Stage.{Stage}
 use Rattle.mj_mail.specs.declared.mail.Stage.TheVariants.{Process, Remote}
-use Rattle.mj_mail.specs.Mail.{body_len, restrict}
-use Rattle.mj_mail.specs.Outcome.{nothing, one_child, one_fact}
-use Rattle.mj_mail.specs.Rules.{HasOwnBody, IsOwnBody, has_recipients, is_small_body, is_storable}
-use Rattle.mj_plan.specs.declared.mailet.MailetKind.{MailetKind}
-use Rattle.mj_plan.specs.declared.mailet.MailetKind.TheVariants as mailet
+use Rattle.mj_mail.specs.Mail.{restrict}
+use Rattle.mj_mail.specs.Outcome.{one_child, one_fact}
+use Rattle.mj_mail.specs.Rules.{IsOwnBody, has_recipients}
 use Rattle.mj_plan.specs.declared.plan.MailetRoute.{MailetRoute}
 use Rattle.mj_plan.specs.declared.plan.MailetRoute.TheVariants as on_mailet
 use Rattle.mj_plan.specs.declared.plan.MatchRoute.{MatchRoute}
@@ -31,75 +26,24 @@ use Rattle.mj_plan.specs.declared.plan.MatchRoute.TheVariants as on_match
 use Rattle.mj_plan.specs.declared.plan.Plan.{Plan}
 use Rattle.mj_plan.specs.declared.plan.Processor.{Processor}
 use Rattle.mj_plan.specs.declared.plan.Step.{Step}
-use Rattle.mj_plan.specs.Forms.{has_length, is_name_byte, is_printable, is_processor_name}
+use Rattle.mj_plan.specs.Forms.{is_name_byte, is_processor_name}
 use Rattle.mj_plan.specs.Lookups.{processor_named}
-use Rattle.mj_plan.specs.Sound.{IsSound, is_mailet, is_mailet_route, is_match_route, is_matcher, is_processor, is_between, is_reserved, is_step, is_target, names_of}
+use Rattle.mj_plan.specs.Sound.{IsSound, is_mailet, is_mailet_route, is_match_route, is_matcher, is_processor, is_between, is_reserved, is_step, names_of}
 use Rattle.mj_container.specs.declared.service.Onward.{Onward}
 use Rattle.mj_container.specs.declared.service.Onward.TheVariants.{GoOn, Leave, End}
 use Rattle.mj_container.specs.declared.service.Served.{Served}
 use Rattle.mj_container.specs.declared.service.Unserved.{Unserved}
 use Rattle.mj_container.specs.Matching.{Mailbox, first_failed}
 use Rattle.mj_container.specs.Running.{both, drafts, failed, failed_at, gone, leave_failed, part, parted, run, run_in, served, settled, split}
-use Rattle.mj_container.specs.Serving.{deposit, ghost_state, leave, sent_to, serve}
+use Rattle.mj_container.specs.Serving.{ghost_state, leave, sent_to, serve}
 use Rattle.mj_container.specs.Sound.{keeps_limits, names_processor}
 use Rattle.mj_container.specs.Verdict.{Verdict, Leaves, Takes, by_route, judged, matcher_failed, verdict}
-use Rattle.mj_container.proofs.Facts.{both_true, limits_kept, limits_of, processor_passes}
+use Rattle.mj_container.proofs.Changes.{all_filtered, fewer}
+use Rattle.mj_container.proofs.Facts.{both_true, le_of, limits_of, of_le, processor_passes, shorter}
 use Rattle.mj_container.proofs.Matchers.{few_failed}
-
--- ---- Parts, children and facts
-
--- a part of a mail, on its way through a processor
-pub record IsPart (mail part : Mail) : Type 0 where
-  pub name : part.name ≡ mail.name
-  pub body : part.body ≡ mail.body
-  pub hops : part.hops ≡ mail.hops
-  pub due : part.due ≡ mail.due
-  pub limits : keeps_limits part ≡ true
-
--- a mail that a step makes of this one: it is sent to a processor of the plan
-pub record IsSent (plan : Plan) (mail child : Mail) : Type 0 where
-  pub state : List ℕ
-  pub stage : child.stage ≡ Process state
-  pub named : names_processor plan state ≡ true
-  pub name : child.name ≡ mail.name
-  pub body : IsOwnBody mail.body child.body
-  pub hops : child.hops ≡ mail.hops + 1
-  pub due : child.due ≡ mail.due
-  pub limits : keeps_limits child ≡ true
-
--- a fact that keeps the limits, and names no other body than the mail's
-pub record IsKept (mail : Mail) (fact : Fact) : Type 0 where
-  pub storable : is_storable fact ≡ true
-  pub own : HasOwnBody mail.body fact
-
--- an outcome of such children and such facts
-pub record IsLawful (plan : Plan) (mail : Mail) (outcome : Outcome) : Type 0 where
-  pub children : AllByRecursion (IsSent plan mail) outcome.children
-  pub facts : AllByRecursion (IsKept mail) outcome.facts
-
-all_append : {X : Type 0} (P : X → Type 0) (xs ys : List X) → AllByRecursion P xs → AllByRecursion P ys → AllByRecursion P (xs ++ ys)
-all_append P [] ys a b = b
-all_append P (x ∷ xs) ys a b = (a.0, all_append P xs ys a.1 b)
-
-own_body : (body : Body) → IsOwnBody body body
-own_body (Original number len) = refl
-own_body (Made bytes) = tt
-
-le_of : (m n : ℕ) → nat_le m n ≡ true → m ≤ n
-le_of m n h = grind (arith, nat_tests, h)
-
-of_le : (m n : ℕ) → m ≤ n → nat_le m n ≡ true
-of_le m n h = grind (arith, nat_tests, h)
-
-pub is_part : (mail : Mail) → keeps_limits mail ≡ true → IsPart mail mail
-is_part mail limits = record { name = refl; body = refl; hops = refl; due = refl; limits = limits }
+use Rattle.mj_container.proofs.Services.{IsKept, IsLawful, IsMailet, IsOnward, IsPart, IsSent, IsService, IsTarget, all_append, is_part, named_lawful, nothing_lawful, own_body, part_with_error, restricted_part, serve_lawful}
 
 -- ---- Texts of failures
-
-shorter : (test : ℕ → Bool) (least most : ℕ) (text : List ℕ) → (has_length least most text && list_all test text) ≡ true → length text ≤ most
-shorter test least most text h =
-    let long = (and_parts (has_length least most text) (list_all test text) h).0 in
-    le_of (length text) most (and_parts (nat_le least (length text)) (nat_le (length text) most) long).1
 
 failed_short : (name : List ℕ) (number : ℕ) (reason : List ℕ) → length name ≤ 64 → number ≤ 200 → length reason ≤ 700 → length (failed_at name number reason) ≤ 1_000
 failed_short name number reason a b c =
@@ -117,40 +61,20 @@ matcher_failed_short condition h =
     let e = length-append (codes "matcher failed at condition ") (decimal condition) in
     omega arith
 
--- ---- Fewer recipients
-
-filter_fewer_by : (test : Mailbox → Bool) (r : Mailbox) (rs : List Mailbox) (b : Bool) → length (filter test rs) ≤ length rs
-    → length (if b then r ∷ filter test rs else filter test rs) ≤ suc (length rs)
-filter_fewer_by test r rs true h = omega arith
-filter_fewer_by test r rs false h = omega arith
-
-filter_fewer : (test : Mailbox → Bool) (rs : List Mailbox) → length (filter test rs) ≤ length rs
-filter_fewer test [] = omega arith
-filter_fewer test (r ∷ rs) = filter_fewer_by test r rs (test r) (filter_fewer test rs)
-
 -- ---- What becomes of a part
 
-module _ (plan : Plan) (mail : Mail) where
+module _ (plan : Plan) (sound : IsSound plan) (mail : Mail) where
   both_lawful : (a b : Outcome) → IsLawful plan mail a → IsLawful plan mail b → IsLawful plan mail (both a b)
   both_lawful a b la lb = record {
     children = all_append (IsSent plan mail) a.children b.children la.children lb.children;
     facts = all_append (IsKept mail) a.facts b.facts la.facts lb.facts;
   }
 
-  nothing_lawful : IsLawful plan mail nothing
-  nothing_lawful = record { children = tt; facts = tt }
-
-  named_lawful : (fact : Fact) → is_storable fact ≡ true → HasOwnBody mail.body fact → IsLawful plan mail (one_fact fact)
-  named_lawful fact storable own = record { children = tt; facts = (record { storable = storable; own = own }, tt) }
-
-  abbrev IsTarget : List ℕ → Type 0
-  IsTarget state = is_target (names_of plan.processors) state ≡ true
-
   -- ---- Leaving
 
-  leave_lawful_by : (state : List ℕ) (part : Mail) (b : Bool) → IsPart mail part → bytes_eq state ghost_state ≡ b → IsTarget state
+  leave_lawful_by : (state : List ℕ) (part : Mail) (b : Bool) → IsPart mail part → bytes_eq state ghost_state ≡ b → IsTarget plan state
       → IsLawful plan mail (if b then one_fact (Dropped Discarded part.recipients) else one_child (sent_to state part))
-  leave_lawful_by state part true p e target = named_lawful (Dropped Discarded part.recipients) (limits_of part p.limits).recipients tt
+  leave_lawful_by state part true p e target = named_lawful plan mail (Dropped Discarded part.recipients) (limits_of part p.limits).recipients tt
   leave_lawful_by state part false p e target = record {
     children = (
       record {
@@ -168,32 +92,8 @@ module _ (plan : Plan) (mail : Mail) where
     facts = tt;
   }
 
-  leave_lawful : (state : List ℕ) (part : Mail) → IsPart mail part → IsTarget state → IsLawful plan mail (leave state part)
+  leave_lawful : (state : List ℕ) (part : Mail) → IsPart mail part → IsTarget plan state → IsLawful plan mail (leave state part)
   leave_lawful state part p target = leave_lawful_by state part (bytes_eq state ghost_state) p refl target
-
-  -- a part with the text of a failure
-  failed_part : (part : Mail) (text : List ℕ) → IsPart mail part → length text ≤ 1_000 → IsPart mail (record part { error = text })
-  failed_part part text p short =
-      let l = limits_of part p.limits in
-      record {
-        name = p.name;
-        body = p.body;
-        hops = p.hops;
-        due = p.due;
-        limits = limits_kept (record part { error = text }) (record { recipients = l.recipients; attributes = l.attributes; error = of_le (length text) MAX_ERROR short; head = l.head; body = l.body });
-      }
-
-  -- a part of a part
-  restricted_part : (part : Mail) (rs : List Mailbox) → IsPart mail part → has_recipients rs ≡ true → IsPart mail (restrict part rs)
-  restricted_part part rs p some =
-      let l = limits_of part p.limits in
-      record {
-        name = p.name;
-        body = p.body;
-        hops = p.hops;
-        due = p.due;
-        limits = limits_kept (restrict part rs) (record { recipients = some; attributes = l.attributes; error = l.error; head = l.head; body = l.body });
-      }
 
   filled : (whole : Mail) (r : Mailbox) (rs : List Mailbox) → IsPart mail whole → length (r ∷ rs) ≤ length whole.recipients → has_recipients (r ∷ rs) ≡ true
   filled whole r rs p fewer =
@@ -202,102 +102,59 @@ module _ (plan : Plan) (mail : Mail) where
       both_true (nat_le 1 (length (r ∷ rs))) (nat_le (length (r ∷ rs)) MAX_RECIPIENTS) (of_le 1 (length (r ∷ rs)) (omega arith)) (of_le (length (r ∷ rs)) MAX_RECIPIENTS (omega arith))
 
   module _ (name : List ℕ) (named : length name ≤ 64) where
-    leave_failed_lawful : (number : ℕ) (reason state : List ℕ) (part : Mail) → number ≤ 200 → length reason ≤ 700 → IsPart mail part → IsTarget state
+    leave_failed_lawful : (number : ℕ) (reason state : List ℕ) (part : Mail) → number ≤ 200 → length reason ≤ 700 → IsPart mail part → IsTarget plan state
         → IsLawful plan mail (leave_failed name number reason state part)
     leave_failed_lawful number reason state part few short p target =
-        leave_lawful state (record part { error = failed_at name number reason }) (failed_part part (failed_at name number reason) p (failed_short name number reason named few short)) target
-
-    -- ---- A mail that is served
-
-    abbrev IsOnward : Onward → Type 0
-    IsOnward (GoOn part) = IsPart mail part
-    IsOnward (Leave part state) = IsPart mail part × IsTarget state
-    IsOnward End = Unit {0}
-
-    abbrev IsService : Result Served Unserved → Type 0
-    IsService (Ok served) = IsLawful plan mail (record { facts = served.facts; children = served.children }) × IsOnward served.onward
-    IsService (Err unserved) = IsPart mail unserved.mail × (length unserved.text ≤ 700)
-
-    abbrev IsMailet : MailetKind → Type 0
-    IsMailet kind = is_mailet (names_of plan.processors) kind ≡ true
-
-    ended : IsService (Ok (record { facts = []; children = []; onward = End }))
-    ended = (nothing_lawful, tt)
-
-    deposited : (path : List ℕ) (part : Mail) → IsPart mail part → IsService (Ok (record { facts = deposit path part ∷ []; children = []; onward = End }))
-    deposited path part p =
-        let l = limits_of part p.limits in
-        let storable : is_storable (deposit path part) ≡ true =
-        both_true (has_recipients part.recipients) (nat_le (length (written part.head)) MAX_HEAD && is_small_body (body_len part.body)) l.recipients
-        (both_true (nat_le (length (written part.head)) MAX_HEAD) (is_small_body (body_len part.body)) l.head l.body) in
-        (named_lawful (deposit path part) storable (subst (λ body. IsOwnBody mail.body body) (sym p.body) (own_body mail.body)), tt)
-
-    serve_lawful : (kind : MailetKind) (part : Mail) → IsPart mail part → IsMailet kind → IsService (serve plan kind part)
-    serve_lawful (mailet.ToProcessor processor) part p h = (nothing_lawful, (p, h))
-    serve_lawful mailet.Null part p h = (nothing_lawful, (p, refl))
-    serve_lawful (mailet.SetMailAttribute attributes) part p h = ended
-    serve_lawful (mailet.RemoveMailAttribute names) part p h = ended
-    serve_lawful mailet.RemoveAllMailAttributes part p h = ended
-    serve_lawful (mailet.SetMimeHeader header value) part p h = ended
-    serve_lawful (mailet.RemoveMimeHeader names) part p h = ended
-    serve_lawful (mailet.MailAttributesToMimeHeaders mapping) part p h = ended
-    serve_lawful (mailet.AddSubjectPrefix prefix) part p h = ended
-    serve_lawful mailet.RecipientToLowerCase part p h = ended
-    serve_lawful mailet.PostmasterAlias part p h = ended
-    serve_lawful mailet.RecipientRewriteTable part p h = ended
-    serve_lawful (mailet.Forward to pass_through) part p h = ended
-    serve_lawful (mailet.Bounce message pass_through) part p h = ended
-    serve_lawful (mailet.NotifyPostmaster pass_through) part p h = ended
-    serve_lawful mailet.LocalDelivery part p h = ended
-    serve_lawful (mailet.ToRepository path pass_through) part p h = deposited path part p
-    serve_lawful (mailet.RemoteDelivery outgoing schedule gateway bounce_processor) part p h = ended
-    serve_lawful (mailet.Fail text) part p h = let short = shorter is_printable 1 512 text h in (p, omega arith)
+        leave_lawful state (record part { error = failed_at name number reason }) (part_with_error mail part (failed_at name number reason) p (failed_short name number reason named few short)) target
 
     module _ (number : ℕ) (few : number ≤ 200) (on : Mail → Outcome) (on_lawful : (part : Mail) → IsPart mail part → IsLawful plan mail (on part)) where
-      gone_lawful : (onward : Onward) → IsOnward onward → IsLawful plan mail (gone on onward)
+      gone_lawful : (onward : Onward) → IsOnward plan mail onward → IsLawful plan mail (gone on onward)
       gone_lawful (GoOn part) h = on_lawful part h
       gone_lawful (Leave part state) h = leave_lawful state part h.0 h.1
-      gone_lawful End h = nothing_lawful
+      gone_lawful End h = nothing_lawful plan mail
 
       failed_lawful : (route : MailetRoute) (unserved : Unserved) → is_mailet_route (names_of plan.processors) route ≡ true → IsPart mail unserved.mail → length unserved.text ≤ 700
           → IsLawful plan mail (failed route name number on unserved)
       failed_lawful on_mailet.Ignore unserved r p short = on_lawful unserved.mail p
       failed_lawful (on_mailet.To state) unserved r p short = leave_failed_lawful number unserved.text state unserved.mail few short p r
 
-      settled_lawful : (route : MailetRoute) (service : Result Served Unserved) → is_mailet_route (names_of plan.processors) route ≡ true → IsService service
+      settled_lawful : (route : MailetRoute) (service : Result Served Unserved) → is_mailet_route (names_of plan.processors) route ≡ true → IsService plan mail service
           → IsLawful plan mail (settled route name number on service)
       settled_lawful route (Ok served) r h = both_lawful (record { facts = served.facts; children = served.children }) (gone on served.onward) h.0 (gone_lawful served.onward h.1)
       settled_lawful route (Err unserved) r h = failed_lawful route unserved r h.0 h.1
 
       -- ---- A mail that is split
 
-      part_lawful : (whole : Mail) (rs : List Mailbox) → IsPart mail whole → length rs ≤ length whole.recipients → IsLawful plan mail (part on whole rs)
-      part_lawful whole [] p fewer = nothing_lawful
-      part_lawful whole (r ∷ rs) p fewer = on_lawful (restrict whole (r ∷ rs)) (restricted_part whole (r ∷ rs) p (filled whole r rs p fewer))
+      part_lawful : (whole : Mail) (rs : List Mailbox) → IsPart mail whole → length rs ≤ length whole.recipients → list_all is_short rs ≡ true → IsLawful plan mail (part on whole rs)
+      part_lawful whole [] p fewer short = nothing_lawful plan mail
+      part_lawful whole (r ∷ rs) p fewer short = on_lawful (restrict whole (r ∷ rs)) (restricted_part mail whole (r ∷ rs) p (filled whole r rs p fewer) short)
 
-      served_lawful : (step : Step) (whole : Mail) → IsPart mail whole → IsMailet step.mailet → is_mailet_route (names_of plan.processors) step.on_mailet ≡ true
+      served_lawful : (step : Step) (whole : Mail) → IsPart mail whole → IsMailet plan step.mailet → is_mailet_route (names_of plan.processors) step.on_mailet ≡ true
           → IsLawful plan mail (served plan name number step on whole)
-      served_lawful step whole p m r = settled_lawful step.on_mailet (serve plan step.mailet whole) r (serve_lawful step.mailet whole p m)
+      served_lawful step whole p m r = settled_lawful step.on_mailet (serve plan step.mailet whole) r (serve_lawful plan sound mail step.mailet whole p m)
 
-      parted_lawful : (step : Step) (whole : Mail) (hits others : List Mailbox) → IsPart mail whole → IsMailet step.mailet → is_mailet_route (names_of plan.processors) step.on_mailet ≡ true
-          → length hits ≤ length whole.recipients → length others ≤ length whole.recipients → IsLawful plan mail (parted (served plan name number step on) on whole hits others)
-      parted_lawful step whole [] others p m r fewer_hits fewer_others = on_lawful whole p
-      parted_lawful step whole (q ∷ hits) others p m r fewer_hits fewer_others =
+      parted_lawful : (step : Step) (whole : Mail) (hits others : List Mailbox) → IsPart mail whole → IsMailet plan step.mailet → is_mailet_route (names_of plan.processors) step.on_mailet ≡ true
+          → length hits ≤ length whole.recipients → length others ≤ length whole.recipients → list_all is_short hits ≡ true → list_all is_short others ≡ true
+          → IsLawful plan mail (parted (served plan name number step on) on whole hits others)
+      parted_lawful step whole [] others p m r fewer_hits fewer_others short_hits short_others = on_lawful whole p
+      parted_lawful step whole (q ∷ hits) others p m r fewer_hits fewer_others short_hits short_others =
           both_lawful (served plan name number step on (restrict whole (q ∷ hits))) (part on whole others)
-          (served_lawful step (restrict whole (q ∷ hits)) (restricted_part whole (q ∷ hits) p (filled whole q hits p fewer_hits)) m r)
-          (part_lawful whole others p fewer_others)
+          (served_lawful step (restrict whole (q ∷ hits)) (restricted_part mail whole (q ∷ hits) p (filled whole q hits p fewer_hits) short_hits) m r)
+          (part_lawful whole others p fewer_others short_others)
 
       -- a verdict sends a mail to a processor of the plan alone, and says why in a short text
       abbrev IsVerdict : Verdict → Type 0
-      IsVerdict (Leaves state reason) = IsTarget state × (length reason ≤ 700)
+      IsVerdict (Leaves state reason) = IsTarget plan state × (length reason ≤ 700)
       IsVerdict (Takes test) = Unit {0}
 
-      split_lawful : (step : Step) (whole : Mail) (v : Verdict) → IsPart mail whole → IsMailet step.mailet → is_mailet_route (names_of plan.processors) step.on_mailet ≡ true → IsVerdict v
+      split_lawful : (step : Step) (whole : Mail) (v : Verdict) → IsPart mail whole → IsMailet plan step.mailet → is_mailet_route (names_of plan.processors) step.on_mailet ≡ true → IsVerdict v
           → IsLawful plan mail (split plan name number step on whole v)
       split_lawful step whole (Leaves state reason) p m r v = leave_failed_lawful number reason state whole few v.1 p v.0
       split_lawful step whole (Takes test) p m r v =
+          let short = (limits_of whole p.limits).short in
           parted_lawful step whole (filter test whole.recipients) (filter (λ q. not (test q)) whole.recipients) p m r
-          (filter_fewer test whole.recipients) (filter_fewer (λ q. not (test q)) whole.recipients)
+          (fewer test whole.recipients) (fewer (λ q. not (test q)) whole.recipients)
+          (all_filtered is_short test whole.recipients short) (all_filtered is_short (λ q. not (test q)) whole.recipients short)
 
       routed : (route : MatchRoute) (condition : ℕ) → condition ≤ 100 → is_match_route (names_of plan.processors) route ≡ true → IsVerdict (by_route route condition)
       routed on_match.NoMatch condition few r = tt
@@ -322,7 +179,7 @@ module _ (plan : Plan) (mail : Mail) where
 
     run_lawful : (number : ℕ) (steps : List Step) (whole : Mail) → number + length steps ≤ 201 → list_all (is_step (names_of plan.processors)) steps ≡ true → IsPart mail whole
         → IsLawful plan mail (run plan name number steps whole)
-    run_lawful number [] whole few h p = named_lawful (FellOff name whole.recipients) (limits_of whole p.limits).recipients tt
+    run_lawful number [] whole few h p = named_lawful plan mail (FellOff name whole.recipients) (limits_of whole p.limits).recipients tt
     run_lawful number (step ∷ steps) whole few h p =
         let all = and_parts (is_step (names_of plan.processors) step) (list_all (is_step (names_of plan.processors)) steps) h in
         stepped_lawful number (omega arith) (run plan name (number + 1) steps)
@@ -330,26 +187,26 @@ module _ (plan : Plan) (mail : Mail) where
 
   run_in_lawful : (found : Option Processor) → keeps_limits mail ≡ true → ((p : Processor) → found ≡ Some p → is_processor (names_of plan.processors) p ≡ true)
       → IsLawful plan mail (run_in plan found mail)
-  run_in_lawful None limits sound = nothing_lawful
-  run_in_lawful (Some p) limits sound =
+  run_in_lawful None limits formed = nothing_lawful plan mail
+  run_in_lawful (Some p) limits formed =
       let names = names_of plan.processors in
-      let formed = is_processor_name p.name && not (is_reserved p.name) in
-      let all = and_parts (formed && nat_le (length p.steps) 200) (list_all (is_step names) p.steps) (sound p refl) in
-      let front = and_parts formed (nat_le (length p.steps) 200) all.0 in
+      let called = is_processor_name p.name && not (is_reserved p.name) in
+      let all = and_parts (called && nat_le (length p.steps) 200) (list_all (is_step names) p.steps) (formed p refl) in
+      let front = and_parts called (nat_le (length p.steps) 200) all.0 in
       let named = shorter is_name_byte 1 64 p.name (and_parts (is_processor_name p.name) (not (is_reserved p.name)) front.0).0 in
       let few = le_of (length p.steps) 200 front.1 in
       run_lawful p.name named 1 p.steps mail (omega arith) all.1 (is_part mail limits)
 
-  drafts_lawful_by : (state : List ℕ) → IsSound plan → keeps_limits mail ≡ true → (b : Bool)
+  drafts_lawful_by : (state : List ℕ) → keeps_limits mail ≡ true → (b : Bool)
       → IsLawful plan mail (if b then one_fact (Looped mail.recipients) else run_in plan (processor_named state plan.processors) mail)
-  drafts_lawful_by state sound limits true = named_lawful (Looped mail.recipients) (limits_of mail limits).recipients tt
-  drafts_lawful_by state sound limits false =
+  drafts_lawful_by state limits true = named_lawful plan mail (Looped mail.recipients) (limits_of mail limits).recipients tt
+  drafts_lawful_by state limits false =
       run_in_lawful (processor_named state plan.processors) limits
       (λ p found. processor_passes (is_processor (names_of plan.processors)) state plan.processors p found sound.processors)
 
-  pub drafts_lawful : (stage : Stage) → IsSound plan → keeps_limits mail ≡ true → IsLawful plan mail (drafts plan stage mail)
-  drafts_lawful (Process state) sound limits = drafts_lawful_by state sound limits (nat_le plan.max_hops mail.hops)
-  drafts_lawful (Remote delivery host attempt) sound limits = nothing_lawful
+  pub drafts_lawful : (stage : Stage) → keeps_limits mail ≡ true → IsLawful plan mail (drafts plan stage mail)
+  drafts_lawful (Process state) limits = drafts_lawful_by state limits (nat_le plan.max_hops mail.hops)
+  drafts_lawful (Remote delivery host attempt) limits = nothing_lawful plan mail
 
 -- ---- Only a mail with fewer hops than the plan allows has children
 

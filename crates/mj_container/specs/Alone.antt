@@ -20,7 +20,6 @@ use Rattle.mj_plan.specs.declared.matcher.MatchExpr.TheFolds.{fold-MatchExpr}
 use Rattle.mj_plan.specs.declared.plan.Plan.{Plan}
 use Rattle.mj_plan.specs.declared.plan.Processor.{Processor}
 use Rattle.mj_plan.specs.declared.plan.Step.{Step}
-use Rattle.mj_container.specs.Built.{is_built_mailet}
 use Rattle.mj_container.specs.Matching.{Mailbox}
 use Rattle.mj_container.specs.Running.{leave_failed, served}
 use Rattle.mj_container.specs.Verdict.{Verdict, Leaves, Takes, verdict}
@@ -59,7 +58,7 @@ is_plain_mailet (Fail text) = true
 is_plain_mailet other = false
 
 abbrev pub is_plain_step : Step → Bool
-is_plain_step step = is_plain_matcher step.matcher && (is_plain_mailet step.mailet && is_built_mailet step.mailet)
+is_plain_step step = is_plain_matcher step.matcher && is_plain_mailet step.mailet
 
 abbrev pub is_plain : List Step → Bool
 is_plain steps = list_all is_plain_step steps

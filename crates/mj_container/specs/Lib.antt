@@ -2,6 +2,9 @@ pub mod Built
 pub mod Sound
 pub mod Matching
 pub mod Verdict
+pub mod Changes
+pub mod Expansion
+pub mod Notices
 pub mod Serving
 pub mod Running
 pub mod Alone

@@ -8,6 +8,7 @@ use Rattle.std.specs.Option.{option_map_or}
 use Rattle.std.specs.Str.{bytes_eq}
 use Rattle.std.specs.Str.Parse.{digits_value}
 use Rattle.mj_terms.specs.Text.{same_text}
+pub use Rattle.mj_address.specs.Grammar.{Mailbox}
 use Rattle.mj_address.specs.Same.{same_address}
 use Rattle.mj_head.specs.Fields.{is_named, unfolded}
 use Rattle.mj_mail.specs.declared.mail.Mail.{Mail}
@@ -22,10 +23,6 @@ use Rattle.mj_plan.specs.declared.matcher.MatchExpr.TheOpen.{MatchExpr-F}
 use Rattle.mj_plan.specs.declared.matcher.MatchExpr.TheFolds.{fold-MatchExpr}
 use Rattle.mj_plan.specs.declared.plan.Plan.{Plan}
 use Rattle.mj_plan.specs.Sound.{is_between}
-
--- a local part and a domain
-abbrev pub Mailbox : Type 0
-Mailbox = List ℕ × List ℕ
 
 -- ---- What conditions look at
 

@@ -1,7 +1,8 @@
 -- When a mail is sound for a plan, and how far it may still go.
-use Rattle.std.specs.Prelude.{ℕ, ◌+◌, ◌-◌, ◌*◌, nat_le, Bool, false, ◌&&◌, List, length}
+use Rattle.std.specs.Prelude.{◌≡◌, ℕ, ◌+◌, ◌-◌, ◌*◌, ◌^◌, ◌<◌, nat_le, Bool, true, false, ◌&&◌, List, length}
 use Rattle.std.specs.List.{list_all, list_any}
 use Rattle.std.specs.Str.{bytes_eq}
+use Rattle.mj_address.specs.Short.{is_short}
 use Rattle.mj_head.specs.Head.{written}
 use Rattle.mj_mail.specs.declared.attributes.TheConstants.{MAX_ATTRIBUTES}
 use Rattle.mj_mail.specs.declared.limits.TheConstants.{MAX_ERROR, MAX_HEAD}
@@ -9,7 +10,7 @@ use Rattle.mj_mail.specs.declared.mail.Mail.{Mail}
 use Rattle.mj_mail.specs.declared.mail.Stage.{Stage}
 use Rattle.mj_mail.specs.declared.mail.Stage.TheVariants.{Process, Remote}
 use Rattle.mj_mail.specs.Mail.{body_len}
-use Rattle.mj_mail.specs.Rules.{has_recipients, is_small_body}
+use Rattle.mj_mail.specs.Rules.{has_recipients, is_short_sender, is_small_body}
 use Rattle.mj_plan.specs.declared.plan.Plan.{Plan}
 use Rattle.mj_plan.specs.Forms.{is_attribute_name, is_attribute_value}
 use Rattle.mj_plan.specs.Sound.{names_of}
@@ -39,8 +40,10 @@ are_attributes attributes = nat_le (length attributes) MAX_ATTRIBUTES && list_al
 abbrev pub keeps_limits : Mail → Bool
 keeps_limits mail =
     has_recipients mail.recipients
+    && (list_all is_short mail.recipients
+    && (is_short_sender mail.sender
     && (are_attributes mail.attributes
-    && (nat_le (length mail.error) MAX_ERROR && (nat_le (length (written mail.head)) MAX_HEAD && is_small_body (body_len mail.body))))
+    && (nat_le (length mail.error) MAX_ERROR && (nat_le (length (written mail.head)) MAX_HEAD && is_small_body (body_len mail.body))))))
 
 -- the plan has a processor of this name
 abbrev pub names_processor : Plan → List ℕ → Bool
@@ -61,3 +64,11 @@ may_stand plan (Remote delivery host attempt) mail = false
 -- the mail is sound for the plan
 abbrev pub is_sound : Plan → Mail → Bool
 is_sound plan mail = keeps_limits mail && may_stand plan mail.stage mail
+
+-- ---- On its way through a processor
+
+-- A mail that a mailet may serve: it keeps the limits, may take one hop more, and is due at a moment that has a date.
+pub record IsFit (mail : Mail) : Type 0 where
+  pub limits : keeps_limits mail ≡ true
+  pub hops : mail.hops + 1 < 2 ^ 32
+  pub due : mail.due < 253_402_300_800_000

@@ -3,6 +3,8 @@
 //! Definitions, the types that they speak of, and the laws that follow; the crates of code cite them.
 #![tactic(auto)]
 
+mod rewrite_fault;
 mod service;
 
+pub use rewrite_fault::{MAX_RESULTS, MAX_ROUNDS, RewriteFault};
 pub use service::{Onward, ServeError, Served, Unserved};
