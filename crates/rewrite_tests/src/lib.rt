@@ -1,0 +1,9 @@
+//! Tests of rewriting.
+#![tactic(auto)]
+
+#[cfg(test)]
+mod mappings;
+#[cfg(test)]
+mod plans;
+#[cfg(test)]
+mod results;
