@@ -1,0 +1,7 @@
+//! Tests of notices about a mail.
+#![tactic(auto)]
+
+#[cfg(test)]
+mod notices;
+#[cfg(test)]
+mod rows;
