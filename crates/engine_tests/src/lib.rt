@@ -2,6 +2,8 @@
 #![tactic(auto)]
 
 #[cfg(test)]
+mod mailets;
+#[cfg(test)]
 mod runs;
 #[cfg(test)]
 mod splits;

@@ -32,7 +32,7 @@ const FAILING: &str = "[[processor.step]]\nmatch = { Or = [\"HostIs=a.test\", \"
 const ROOT: &str = "[[processor]]\nname = \"root\"\n";
 
 /// What the row looks at, the parts of the configuration behind `[spool]`, the mail, and the report.
-const SPLITS: [(&str, &[&str], &str, &str); 11] = [
+const SPLITS: [(&str, &[&str], &str, &str); 12] = [
     (
         "not one of two hosts",
         &[
@@ -156,6 +156,20 @@ const SPLITS: [(&str, &[&str], &str, &str); 11] = [
         ],
         TWO,
         "1/1#1 deposit x r2@b.test 23\n1/2#1 deposit x r1@a.test 23\n",
+    ),
+    (
+        "the postmaster is told of a failure",
+        &[
+            ROOT,
+            "[[processor.step]]\nmatch = \"RecipientIs=ann@example.org\"\nclass = \"Fail\"\ntext = \"boom\"\n",
+            ALL,
+            X,
+            "[[processor]]\nname = \"error\"\n",
+            ALL,
+            "class = \"NotifyPostmaster\"\npassThrough = false\n",
+        ],
+        MAIL,
+        "1/1/1#1 deposit x postmaster@example.org 299\n",
     ),
 ];
 

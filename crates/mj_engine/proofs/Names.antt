@@ -1,6 +1,6 @@
 -- The report of all names is the report of the mails and the refused files.
-use Rattle.std.proofs.Common.{◌≡◌, ℕ, zero, suc, ◌+◌, Bool, true, false, cond, List, [], ◌∷◌, ◌++◌, length, drop, get_or, Option, Some, None, IfSome, Result, Ok, Err, filter, refl, sym, ap, ◌∙◌, arith, append_assoc, append-nil}
-use Rattle.std.specs.List.{flat_map, filter_map, cons_option, enumerate_from, slice_get}
+use Rattle.std.proofs.Common.{◌≡◌, ℕ, ◌+◌, Bool, true, false, cond, List, [], ◌∷◌, ◌++◌, drop, Option, Some, None, IfSome, Result, Ok, Err, filter, refl, sym, ap, ◌∙◌, append_assoc, append-nil}
+use Rattle.std.specs.List.{flat_map, cons_option, enumerate_from, slice_get}
 use Rattle.std.proofs.lemmas.Grind.{flat_map-append}
 use Rattle.std.proofs.lemmas.List.{drop_more}
 use Rattle.std.proofs.lemmas.Option.{slice_get_within, get_or_from_slice_get}
@@ -21,6 +21,10 @@ use Rattle.mj_engine.specs.Run.{with_found, with_name, with_names, empty_report,
 pub IfSome_both : {X : Type 0} (o : Option X) (P Q R : X → Type 0) → IfSome o P → IfSome o Q → ((x : X) → P x → Q x → R x) → IfSome o R
 IfSome_both None P Q R p q f = tt
 IfSome_both (Some x) P Q R p q f = f x p q
+
+pub IfSome_then : {X : Type 0} (o : Option X) (P Q : X → Type 0) → IfSome o P → ((x : X) → P x → Q x) → IfSome o Q
+IfSome_then None P Q p f = tt
+IfSome_then (Some x) P Q p f = f x p
 
 -- a list from the place of an item on
 pub drop_at : {X : Type 0} (xs : List X) (k : ℕ) (x : X) → slice_get xs k ≡ Some x → drop k xs ≡ x ∷ drop (k + 1) xs
@@ -78,14 +82,12 @@ module _ (plan : Plan) (files : List (List ℕ × List ℕ)) where
       → with_names plan files (drop (k + 1) names) (with_name plan files report name) ≡ with_names plan files (drop k names) report
   with_names-next names k name report e = sym (ap (λ rest. with_names plan files rest report) (drop_at names k name e))
 
-  -- what a run writes
-  pub output_is : (report : Report) (text : List ℕ) → plan_in files ≡ Ok plan
-      → report ≡ with_names plan files (names_in folder files) empty_report → text ≡ report.facts ++ report.refused → output files ≡ Ok text
-  output_is report text planned named written =
-      let facts : report.facts ≡ lines_from 1 (mails_of files (filter is_mail_name (names_in folder files))) = ap (λ r. r.facts) named ∙ facts_of_names (names_in folder files) empty_report in
-      let others : report.refused ≡ flat_map refused_line (refusals_of files (filter is_mail_name (names_in folder files))) = ap (λ r. r.refused) named ∙ refused_of_names (names_in folder files) empty_report in
-      let same : report_of plan files ≡ text = sym (written ∙ rw (facts, others)) in
-      ap (output_by files) planned ∙ ap (λ t. Ok t) same
+  -- the report of the files
+  pub report_is : (found : Report) (text : List ℕ) → found ≡ with_names plan files (names_in folder files) empty_report → text ≡ found.facts ++ found.refused → report_of plan files ≡ text
+  report_is found text named written =
+      let facts : found.facts ≡ lines_from 1 (mails_of files (filter is_mail_name (names_in folder files))) = ap (λ r. r.facts) named ∙ facts_of_names (names_in folder files) empty_report in
+      let others : found.refused ≡ flat_map refused_line (refusals_of files (filter is_mail_name (names_in folder files))) = ap (λ r. r.refused) named ∙ refused_of_names (names_in folder files) empty_report in
+      sym (written ∙ rw (facts, others))
 
 refused_by : (files : List (List ℕ × List ℕ)) (planned : Result Plan PlanFault) (fault : PlanFault) → output_by files planned ≡ Err fault → planned ≡ Err fault
 refused_by files (Ok plan) fault e = absurd cc

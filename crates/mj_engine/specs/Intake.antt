@@ -1,5 +1,5 @@
 -- The intake: which files of the folder `mails` are mails, and which are refused and why.
-use Rattle.std.specs.Prelude.{ℕ, nat_lt, Bool, if◌then◌else◌, nat_eq, List, [], ◌∷◌, ◌++◌, codes, length, filter, Option, Some, None, option_map, Result, Ok, Err}
+use Rattle.std.specs.Prelude.{ℕ, nat_lt, Bool, if◌then◌else◌, nat_eq, List, ◌++◌, codes, length, filter, Option, Some, None, option_map, Result, Ok, Err}
 use Rattle.std.specs.List.{ends_with, filter_map, enumerate_from}
 use Rattle.mj_io.specs.Folder.{file_at, names_in}
 use Rattle.mj_mail.specs.declared.mail.NewMail.{NewMail}

@@ -86,9 +86,5 @@ fn is_built_step(step: &Step) -> bool
 fn is_built_mailet(mailet: &MailetKind) -> bool
     ensures { result ≡ is_built_mailet mailet.now }
 {
-    match mailet {
-        MailetKind::ToProcessor { .. } | MailetKind::Null | MailetKind::Fail { .. } => true,
-        MailetKind::ToRepository { pass_through, .. } => !*pass_through,
-        _ => false,
-    }
+    !matches!(mailet, MailetKind::RemoteDelivery { .. })
 }

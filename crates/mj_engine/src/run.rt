@@ -6,7 +6,7 @@ ghost use Rattle.mj_io.specs.Folder.{names_in};
 ghost use Rattle.mj_mail.specs.Rules.{is_acceptable};
 ghost use Rattle.mj_engine.specs.Config.{configuration, plan_room as room_of_plan};
 ghost use Rattle.mj_engine.specs.Intake.{folder, mail_room as room_of_mail};
-ghost use Rattle.mj_engine.specs.Run.{GivesOutput, GivesRules, output, plan_in, with_found, with_name, with_names, empty_report};
+ghost use Rattle.mj_engine.specs.Run.{GivesOutput, GivesRules, output, plan_in, report, with_found, with_name, with_names, empty_report};
 
 use crate::carry::put_mail;
 use crate::config::read_configuration;
@@ -72,7 +72,16 @@ pub fn run<F: Files>(alloc: Global, files: &mut F) -> Result<Bytes, RunFault>
     ensures cause { HasCause RunFault.Read (F.faults files.old) (F.faults files.new) result }
 {
     let rules = load_rules(alloc, files, plan_room())?;
-    let report = take_in(alloc, files, &rules)?;
+    report_by(alloc, files, &rules)
+}
+
+/// The report of the mails of the folder by these rules.
+fn report_by<F: Files>(alloc: Global, files: &mut F, rules: &JamesRules) -> Result<Bytes, RunFault>
+    ensures exact { IfSome (F.told files.old) (λ told. GivesOutput result (Ok (report rules.now.plan told))) }
+    ensures same { F.told files.new ≡ F.told files.old }
+    ensures cause { HasCause RunFault.Read (F.faults files.old) (F.faults files.new) result }
+{
+    let report = take_in(alloc, files, rules)?;
     Ok(report.into_text()?)
 }
 

@@ -1,8 +1,8 @@
 -- Masks beside verdicts.
-use Rattle.std.proofs.Common.{◌≡◌, ◌∙◌, ℕ, Bool, true, false, List, [], ◌∷◌, length, map, refl, sym, ap, arith}
+use Rattle.std.proofs.Common.{◌≡◌, ◌∙◌, ℕ, ◌≤◌, Bool, true, false, List, [], ◌∷◌, length, map, refl, sym, ap, arith}
 use Rattle.std.specs.Prelude.{replicate}
-use Rattle.std.specs.List.{list_any}
-use Rattle.std.proofs.lemmas.Bool.{false≢true}
+use Rattle.std.specs.List.{list_all, list_any}
+use Rattle.std.proofs.lemmas.Bool.{and_parts, false≢true}
 use Rattle.std.proofs.lemmas.List.{length-map}
 use Rattle.mj_address.specs.Masks.{left, taken}
 use Rattle.mj_address.proofs.Masks.{left_filter, taken_filter}
@@ -34,6 +34,32 @@ some_taken [] xs size some gone = false≢true some
 some_taken (b ∷ mask) [] size some gone = absurd (omega arith)
 some_taken (true ∷ mask) (x ∷ xs) size some gone = cc
 some_taken (false ∷ mask) (x ∷ xs) size some gone = some_taken mask xs (omega arith) some gone
+
+-- each side has no more than all
+pub taken_fewer : {X : Type 0} (mask : List Bool) (xs : List X) → length (taken mask xs) ≤ length xs
+taken_fewer [] xs = omega arith
+taken_fewer (b ∷ mask) [] = omega arith
+taken_fewer (true ∷ mask) (x ∷ xs) = let h = taken_fewer mask xs in omega (arith, h)
+taken_fewer (false ∷ mask) (x ∷ xs) = let h = taken_fewer mask xs in omega (arith, h)
+
+pub left_fewer : {X : Type 0} (mask : List Bool) (xs : List X) → length (left mask xs) ≤ length xs
+left_fewer [] xs = omega arith
+left_fewer (b ∷ mask) [] = omega arith
+left_fewer (true ∷ mask) (x ∷ xs) = let h = left_fewer mask xs in omega (arith, h)
+left_fewer (false ∷ mask) (x ∷ xs) = let h = left_fewer mask xs in omega (arith, h)
+
+-- and what all have, each side has
+pub taken_all : {X : Type 0} (p : X → Bool) (mask : List Bool) (xs : List X) → list_all p xs ≡ true → list_all p (taken mask xs) ≡ true
+taken_all p [] xs all = refl
+taken_all p (b ∷ mask) [] all = refl
+taken_all p (true ∷ mask) (x ∷ xs) all = let parts = and_parts (p x) (list_all p xs) all in rw (parts.0) (taken_all p mask xs parts.1)
+taken_all p (false ∷ mask) (x ∷ xs) all = taken_all p mask xs (and_parts (p x) (list_all p xs) all).1
+
+pub left_all : {X : Type 0} (p : X → Bool) (mask : List Bool) (xs : List X) → list_all p xs ≡ true → list_all p (left mask xs) ≡ true
+left_all p [] xs all = refl
+left_all p (b ∷ mask) [] all = refl
+left_all p (true ∷ mask) (x ∷ xs) all = left_all p mask xs (and_parts (p x) (list_all p xs) all).1
+left_all p (false ∷ mask) (x ∷ xs) all = let parts = and_parts (p x) (list_all p xs) all in rw (parts.0) (left_all p mask xs parts.1)
 
 abbrev is_mask : Judged → Bool
 is_mask (judgement.Leaves state reason) = false

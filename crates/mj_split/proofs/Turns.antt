@@ -4,11 +4,12 @@ use Rattle.std.specs.Prelude.{nat_le, ◌&&◌, not}
 use Rattle.std.specs.List.{list_all, slice_get}
 use Rattle.std.specs.Option.{is_some}
 use Rattle.std.proofs.lemmas.Bool.{and_parts, cases_lt, true≢false}
-use Rattle.std.proofs.lemmas.Bool.Decides.{nat_tests}
 use Rattle.std.proofs.lemmas.Option.{get_or_from_slice_get, slice_get-get_or, slice_get_within}
 use Rattle.std.proofs.Math.ListN.{drop_of_length-le}
+use Rattle.mj_address.specs.Short.{is_short}
 use Rattle.mj_mail.specs.declared.fact.Fact.TheVariants.{FellOff}
 use Rattle.mj_mail.specs.declared.fact.Outcome.{Outcome}
+use Rattle.mj_mail.specs.declared.limits.TheConstants.{MAX_RECIPIENTS}
 use Rattle.mj_mail.specs.declared.mail.Mail.{Mail}
 use Rattle.mj_mail.specs.Mail.{restrict}
 use Rattle.mj_mail.specs.Outcome.{nothing, one_fact}
@@ -19,9 +20,12 @@ use Rattle.mj_plan.specs.Forms.{is_processor_name}
 use Rattle.mj_plan.specs.Sound.{is_mailet, is_mailet_route, is_match_route, is_matcher, is_processor, is_reserved, is_step}
 use Rattle.mj_container.specs.Matching.{Mailbox}
 use Rattle.mj_container.specs.Running.{both, part, parted, run, served, split}
+use Rattle.mj_container.specs.Sound.{IsFit}
 use Rattle.mj_container.specs.Verdict.{verdict}
+use Rattle.mj_container.proofs.Facts.{both_true, le_of, limits_of, of_le}
+use Rattle.mj_container.proofs.Fit.{restricted_fit}
 use Rattle.mj_split.specs.declared.run.Waiting.{Waiting}
-use Rattle.mj_split.specs.Parts.{IsLevel, WaitLevel, goes_on, waits_at}
+use Rattle.mj_split.specs.Parts.{IsFitNext, WaitFit, for_any, goes_on, waits_at}
 
 -- ---- Outcomes
 
@@ -109,32 +113,48 @@ past (step ∷ steps) k h = elim (cases_lt k (length (step ∷ steps))) [
   | inr far ↦ far
 ]
 
--- ---- Hops
+-- ---- What waits is fit for a mailet
 
-level-append : (hops : ℕ) (xs ys : List Waiting) → WaitLevel hops xs → WaitLevel hops ys → WaitLevel hops (xs ++ ys)
-level-append hops [] ys a b = b
-level-append hops (x ∷ xs) ys a b = (a.0, level-append hops xs ys a.1 b)
+fit-append : (xs ys : List Waiting) → WaitFit xs → WaitFit ys → WaitFit (xs ++ ys)
+fit-append [] ys a b = b
+fit-append (x ∷ xs) ys a b = (a.0, fit-append xs ys a.1 b)
 
-level_front : (hops : ℕ) (xs ys : List Waiting) → WaitLevel hops (xs ++ ys) → WaitLevel hops xs
-level_front hops [] ys a = tt
-level_front hops (x ∷ xs) ys a = (a.0, level_front hops xs ys a.1)
+fit_front : (xs ys : List Waiting) → WaitFit (xs ++ ys) → WaitFit xs
+fit_front [] ys a = tt
+fit_front (x ∷ xs) ys a = (a.0, fit_front xs ys a.1)
 
-level_back : (hops : ℕ) (xs ys : List Waiting) → WaitLevel hops (xs ++ ys) → WaitLevel hops ys
-level_back hops [] ys a = a
-level_back hops (x ∷ xs) ys a = level_back hops xs ys a.1
+fit_back : (xs ys : List Waiting) → WaitFit (xs ++ ys) → WaitFit ys
+fit_back [] ys a = a
+fit_back (x ∷ xs) ys a = fit_back xs ys a.1
 
-level_waits : (hops k : ℕ) (next : Option Mail) → IsLevel hops next → WaitLevel hops (waits_at k next)
-level_waits hops k None level = tt
-level_waits hops k (Some mail) level = (level, tt)
+fit_waits : (k : ℕ) (next : Option Mail) → IsFitNext next → WaitFit (waits_at k next)
+fit_waits k None fit = tt
+fit_waits k (Some mail) fit = (fit, tt)
 
--- the part that is popped has the hops of all
-pub popped_level : (hops : ℕ) (old ws : List Waiting) (waiting : Waiting) → old ≡ ws ++ waiting ∷ [] → WaitLevel hops old → waiting.mail.hops ≡ hops
-popped_level hops old ws waiting popped level = (level_back hops ws (waiting ∷ []) (subst (WaitLevel hops) popped level)).0
+-- and so is the part that is popped
+pub popped_fit : (old ws : List Waiting) (waiting : Waiting) → old ≡ ws ++ waiting ∷ [] → WaitFit old → IsFit waiting.mail
+popped_fit old ws waiting popped fit = (fit_back ws (waiting ∷ []) (subst WaitFit popped fit)).0
+
+filled : (rs : List Mailbox) → (rs ≡ [] → ⊥) → 1 ≤ length rs
+filled [] some = absurd (some refl)
+filled (r ∷ rs) some = omega arith
+
+-- a mail for some of its recipients is
+pub some_fit : (mail : Mail) (rs : List Mailbox) → IsFit mail → (rs ≡ [] → ⊥) → length rs ≤ length mail.recipients → list_all is_short rs ≡ true → IsFit (restrict mail rs)
+some_fit mail rs fit some fewer short =
+    let most = le_of (length mail.recipients) MAX_RECIPIENTS (and_parts (nat_le 1 (length mail.recipients)) (nat_le (length mail.recipients) MAX_RECIPIENTS) (limits_of mail fit.limits).recipients).1 in
+    restricted_fit mail rs fit
+    (both_true (nat_le 1 (length rs)) (nat_le (length rs) MAX_RECIPIENTS) (of_le 1 (length rs) (filled rs some)) (of_le (length rs) MAX_RECIPIENTS (omega (arith, most, fewer)))) short
+
+pub any_fit : (mail : Mail) (rs : List Mailbox) → IsFit mail → length rs ≤ length mail.recipients → list_all is_short rs ≡ true → IsFitNext (for_any mail rs)
+any_fit mail [] fit fewer short = tt
+any_fit mail (r ∷ rs) fit fewer short = some_fit mail (r ∷ rs) fit (λ e. cc) fewer short
+
+pub any_goes : (on : Mail → Outcome) (mail : Mail) (rs : List Mailbox) → goes_on on (for_any mail rs) ≡ part on mail rs
+any_goes on mail [] = refl
+any_goes on mail (r ∷ rs) = refl
 
 -- ---- A processor of a sound plan
-
-le_of : (m n : ℕ) → nat_le m n ≡ true → m ≤ n
-le_of m n h = grind (arith, nat_tests, h)
 
 step_at : (names : List (List ℕ)) (steps : List Step) (k : ℕ) (step : Step) → list_all (is_step names) steps ≡ true → slice_get steps k ≡ Some step → is_step names step ≡ true
 step_at names [] k step all at = absurd (let within = slice_get_within {A = Step} [] k step at in omega arith)
@@ -147,47 +167,56 @@ few_steps names processor h =
     let formed = is_processor_name processor.name && not (is_reserved processor.name) in
     le_of (length processor.steps) 200 (and_parts formed (nat_le (length processor.steps) 200) (and_parts (formed && nat_le (length processor.steps) 200) (list_all (is_step names) processor.steps) h).0).1
 
--- and each of their matchers has its form
-pub matcher_at : (names : List (List ℕ)) (processor : Processor) (k : ℕ) (step : Step) → is_processor names processor ≡ true → slice_get processor.steps k ≡ Some step → is_matcher step.matcher ≡ true
-matcher_at names processor k step h at =
+-- each of its steps has its form
+pub formed_at : (names : List (List ℕ)) (processor : Processor) (k : ℕ) (step : Step) → is_processor names processor ≡ true → slice_get processor.steps k ≡ Some step → is_step names step ≡ true
+formed_at names processor k step h at =
     let formed = is_processor_name processor.name && not (is_reserved processor.name) in
-    let all = (and_parts (formed && nat_le (length processor.steps) 200) (list_all (is_step names) processor.steps) h).1 in
+    step_at names processor.steps k step (and_parts (formed && nat_le (length processor.steps) 200) (list_all (is_step names) processor.steps) h).1 at
+
+-- and so have its matcher and its mailet
+pub matcher_of : (names : List (List ℕ)) (step : Step) → is_step names step ≡ true → is_matcher step.matcher ≡ true
+matcher_of names step h =
     let front = is_matcher step.matcher && is_match_route names step.on_match in
-    let one = and_parts (front && is_mailet names step.mailet) (is_mailet_route names step.on_mailet) (step_at names processor.steps k step all at) in
+    let one = and_parts (front && is_mailet names step.mailet) (is_mailet_route names step.on_mailet) h in
     (and_parts (is_matcher step.matcher) (is_match_route names step.on_match) (and_parts front (is_mailet names step.mailet) one.0).0).0
+
+pub mailet_of : (names : List (List ℕ)) (step : Step) → is_step names step ≡ true → is_mailet names step.mailet ≡ true
+mailet_of names step h =
+    let front = is_matcher step.matcher && is_match_route names step.on_match in
+    (and_parts front (is_mailet names step.mailet) (and_parts (front && is_mailet names step.mailet) (is_mailet_route names step.on_mailet) h).0).1
 
 -- ---- One turn: the last part takes its step, or is past the last one
 
-pub record Turn (plan : Plan) (name : List ℕ) (steps : List Step) (hops : ℕ) (all before after : Outcome) (old new : List Waiting) : Type 0 where
+pub record Turn (plan : Plan) (name : List ℕ) (steps : List Step) (all before after : Outcome) (old new : List Waiting) : Type 0 where
   pub told : both after (pending plan name steps new) ≡ all
-  pub level : WaitLevel hops new
+  pub fit : WaitFit new
   pub lighter : weight (length steps) new < weight (length steps) old
 
-module _ (plan : Plan) (name : List ℕ) (steps : List Step) (hops : ℕ) (all before after : Outcome) (old new ws : List Waiting) (waiting : Waiting)
-    (told : both before (pending plan name steps old) ≡ all) (level : WaitLevel hops old) (popped : old ≡ ws ++ waiting ∷ []) where
+module _ (plan : Plan) (name : List ℕ) (steps : List Step) (all before after : Outcome) (old new ws : List Waiting) (waiting : Waiting)
+    (told : both before (pending plan name steps old) ≡ all) (fit : WaitFit old) (popped : old ≡ ws ++ waiting ∷ []) where
   last_first : both before (both (rest_of plan name steps waiting) (pending plan name steps ws)) ≡ all
   last_first = ap (both before) (sym (ap (pending plan name steps) popped ∙ pending-append plan name steps ws (waiting ∷ []))) ∙ told
 
   old_weight : weight (length steps) old ≡ weight (length steps) ws + (turns (length steps - waiting.place) + 0)
   old_weight = ap (weight (length steps)) popped ∙ weight-append (length steps) ws (waiting ∷ [])
 
-  ws_level : WaitLevel hops ws
-  ws_level = level_front hops ws (waiting ∷ []) (subst (WaitLevel hops) popped level)
+  ws_fit : WaitFit ws
+  ws_fit = fit_front ws (waiting ∷ []) (subst WaitFit popped fit)
 
-  pub fell : length steps ≤ waiting.place → after ≡ both before (one_fact (FellOff name waiting.mail.recipients)) → new ≡ ws → Turn plan name steps hops all before after old new
+  pub fell : length steps ≤ waiting.place → after ≡ both before (one_fact (FellOff name waiting.mail.recipients)) → new ≡ ws → Turn plan name steps all before after old new
   fell far put same = record {
     told = (λ i. both (put i) (pending plan name steps (same i))) ∙ both_assoc before (one_fact (FellOff name waiting.mail.recipients)) (pending plan name steps ws)
         ∙ ap (λ left. both before (both (run plan name (waiting.place + 1) left waiting.mail) (pending plan name steps ws))) (sym (drop_of_length-le steps far))
         ∙ last_first;
-    level = subst (WaitLevel hops) (sym same) ws_level;
+    fit = subst WaitFit (sym same) ws_fit;
     lighter = let w = ap (weight (length steps)) same in omega (arith, old_weight, w, some_turns (length steps - waiting.place));
   }
 
   pub stepped : (step : Step) (served rest : Option Mail) → slice_get steps waiting.place ≡ Some step
       → ((on : Mail → Outcome) → both after (both (goes_on on served) (goes_on on rest)) ≡ both before (split plan name (waiting.place + 1) step on waiting.mail (verdict plan step waiting.mail)))
-      → IsLevel hops served → IsLevel hops rest
-      → new ≡ (ws ++ waits_at (waiting.place + 1) rest) ++ waits_at (waiting.place + 1) served → Turn plan name steps hops all before after old new
-  stepped step served rest here took level_served level_rest same =
+      → IsFitNext served → IsFitNext rest
+      → new ≡ (ws ++ waits_at (waiting.place + 1) rest) ++ waits_at (waiting.place + 1) served → Turn plan name steps all before after old new
+  stepped step served rest here took fit_served fit_rest same =
       let k = waiting.place + 1 in
       let on = run plan name (k + 1) (drop k steps) in
       let within = slice_get_within steps waiting.place step here in
@@ -202,8 +231,8 @@ module _ (plan : Plan) (name : List ℕ) (steps : List Step) (hops : ℕ) (all b
             ∙ both_assoc before (split plan name k step on waiting.mail (verdict plan step waiting.mail)) (pending plan name steps ws)
             ∙ ap (λ left. both before (both (run plan name k left waiting.mail) (pending plan name steps ws))) (sym (drop_at steps waiting.place step here))
             ∙ last_first;
-        level = subst (WaitLevel hops) (sym same)
-            (level-append hops (ws ++ waits_at k rest) (waits_at k served) (level-append hops ws (waits_at k rest) ws_level (level_waits hops k rest level_rest)) (level_waits hops k served level_served));
+        fit = subst WaitFit (sym same)
+            (fit-append (ws ++ waits_at k rest) (waits_at k served) (fit-append ws (waits_at k rest) ws_fit (fit_waits k rest fit_rest)) (fit_waits k served fit_served));
         lighter =
             let n = length steps in
             let w : weight n new ≡ weight n ((ws ++ waits_at k rest) ++ waits_at k served) = ap (weight n) same in

@@ -1,13 +1,14 @@
 //! A mail on its way through the steps of a processor.
-ghost use Rattle.std.specs.Prelude.{◌≡◌, ◌++◌, ◌<◌, ◌+◌, ◌^◌, true, IfOk, OnOk};
+ghost use Rattle.std.specs.Prelude.{◌≡◌, ◌++◌, true, IfOk, OnOk};
 ghost use Rattle.std.specs.List.{Contains};
 ghost use Rattle.mj_container.specs.Alone.{IsAsAlone, is_plain};
 ghost use Rattle.mj_container.specs.Matching.{Mailbox};
 ghost use Rattle.mj_container.specs.Running.{both, run};
 ghost use Rattle.mj_mail.specs.declared.fact.Fact.TheVariants.{FellOff};
 ghost use Rattle.mj_mail.specs.Outcome.{numbered, one_fact};
-ghost use Rattle.mj_plan.specs.Sound.{is_processor, names_of};
-ghost use Rattle.mj_split.specs.Parts.{IsLevel, waits_at};
+ghost use Rattle.mj_container.specs.Sound.{IsFit};
+ghost use Rattle.mj_plan.specs.Sound.{IsSound, is_processor, names_of};
+ghost use Rattle.mj_split.specs.Parts.{waits_at};
 
 use crate::step::take_step;
 use crate::step_at::StepAt;
@@ -32,8 +33,9 @@ pub fn run_processor(
     processor: &Processor,
     mail: Mail,
 ) -> Result<Outcome, Memory>
-    requires sound { is_processor (names_of plan.now.processors) processor.now ≡ true }
-    requires young { mail.hops + 1 < 2 ^ 32 }
+    requires plan { IsSound plan.now }
+    requires processor { is_processor (names_of plan.now.processors) processor.now ≡ true }
+    requires fit { IsFit mail }
     ensures run { IfOk result (λ outcome. outcome ≡ numbered (run plan.now processor.now.name 1 processor.now.steps mail)) }
     // In a processor of plain steps each recipient comes to what it would come to alone.
     ensures alone { IfOk result (λ outcome. is_plain processor.now.steps ≡ true
@@ -51,8 +53,9 @@ fn run_parts(
     processor: &Processor,
     mail: Mail,
 ) -> Result<Outcome, Memory>
-    requires sound { is_processor (names_of plan.now.processors) processor.now ≡ true }
-    requires young { mail.hops + 1 < 2 ^ 32 }
+    requires plan { IsSound plan.now }
+    requires processor { is_processor (names_of plan.now.processors) processor.now ≡ true }
+    requires fit { IsFit mail }
     ensures { IfOk result (λ outcome. outcome ≡ run plan.now processor.now.name 1 processor.now.steps mail) }
 {
     let mut out = Outcome::nothing(alloc);

@@ -1,10 +1,12 @@
 //! A part that a step serves, and what comes of it.
-ghost use Rattle.std.specs.Prelude.{◌≡◌, ◌++◌, ◌<◌, ◌+◌, ◌^◌, ℕ, IfOk, OnOk};
+ghost use Rattle.std.specs.Prelude.{◌≡◌, ◌++◌, true, IfOk, OnOk};
 ghost use Rattle.mj_container.specs.Running.{both, failed as failed_of, gone as gone_of, served as served_of};
-ghost use Rattle.mj_container.specs.Serving.{HasHops};
+ghost use Rattle.mj_container.specs.Serving.{HasFit};
+ghost use Rattle.mj_container.specs.Sound.{IsFit};
 ghost use Rattle.mj_mail.specs.declared.fact.Outcome.{Outcome as OutcomeValue};
 ghost use Rattle.mj_mail.specs.declared.mail.Mail.{Mail as MailValue};
-ghost use Rattle.mj_split.specs.Parts.{IsLevel, goes_on};
+ghost use Rattle.mj_split.specs.Parts.{IsFitNext, goes_on};
+ghost use Rattle.mj_plan.specs.Sound.{IsSound, is_mailet, names_of};
 
 use crate::leave::{leave, leave_failed};
 use crate::step_at::StepAt;
@@ -22,38 +24,37 @@ pub fn serve_part(
     mail: Mail,
     out: &mut Outcome,
 ) -> Result<Option<Mail>, Memory>
-    requires { mail.hops + 1 < 2 ^ 32 }
+    requires plan { IsSound at.plan.now }
+    requires mailet { is_mailet (names_of at.plan.now.processors) at.step.now.mailet ≡ true }
+    requires fit { IsFit mail }
     ensures outcome { IfOk result (λ next. (on : MailValue → OutcomeValue) →
         both out.new (goes_on on next) ≡ both out.old (served_of at.entry.plan.now at.entry.name.now at.entry.number at.entry.step.now on mail)) }
-    ensures hops { IfOk result (λ next. IsLevel mail.hops next) }
+    ensures fit { IfOk result (λ next. IsFitNext next) }
 {
-    let hops = mail.hops;
     match serve(alloc, &at.step.mailet, at.plan, mail) {
-        Ok(served) => put_served(hops, served, out),
+        Ok(served) => put_served(served, out),
         Err(ServeError::Failed(unserved)) => { put_unserved(alloc, at, unserved, out) }
         Err(ServeError::Memory) => Err(Memory),
     }
 }
 
 /// Puts what a mailet gave to the outcome.
-fn put_served(hops: u32, served: Served, out: &mut Outcome) -> Result<Option<Mail>, Memory>
-    requires level { HasHops hops served.onward }
-    requires young { hops + 1 < 2 ^ 32 }
+fn put_served(served: Served, out: &mut Outcome) -> Result<Option<Mail>, Memory>
+    requires { HasFit served.onward }
     ensures outcome { IfOk result (λ next. (on : MailValue → OutcomeValue) →
         both out.new (goes_on on next) ≡ both out.old (both (record { facts = served.facts; children = served.children }) (gone_of on served.onward))) }
-    ensures hops { IfOk result (λ next. IsLevel hops next) }
+    ensures fit { IfOk result (λ next. IsFitNext next) }
 {
     append_facts(&mut out.facts, served.facts)?;
     append_children(&mut out.children, served.children)?;
-    put_onward(hops, served.onward, out)
+    put_onward(served.onward, out)
 }
 
 /// The mail goes on, leaves, or ends.
-fn put_onward(hops: u32, onward: Onward, out: &mut Outcome) -> Result<Option<Mail>, Memory>
-    requires level { HasHops hops onward }
-    requires young { hops + 1 < 2 ^ 32 }
+fn put_onward(onward: Onward, out: &mut Outcome) -> Result<Option<Mail>, Memory>
+    requires { HasFit onward }
     ensures outcome { IfOk result (λ next. (on : MailValue → OutcomeValue) → both out.new (goes_on on next) ≡ both out.old (gone_of on onward)) }
-    ensures hops { IfOk result (λ next. IsLevel hops next) }
+    ensures fit { IfOk result (λ next. IsFitNext next) }
 {
     match onward {
         Onward::GoOn(mail) => Ok(Some(mail)),
@@ -72,10 +73,10 @@ fn put_unserved(
     unserved: Unserved,
     out: &mut Outcome,
 ) -> Result<Option<Mail>, Memory>
-    requires { unserved.mail.hops + 1 < 2 ^ 32 }
+    requires { IsFit unserved.mail }
     ensures outcome { IfOk result (λ next. (on : MailValue → OutcomeValue) →
         both out.new (goes_on on next) ≡ both out.old (failed_of at.entry.step.now.on_mailet at.entry.name.now at.entry.number on unserved)) }
-    ensures hops { IfOk result (λ next. IsLevel unserved.mail.hops next) }
+    ensures fit { IfOk result (λ next. IsFitNext next) }
 {
     let Unserved { mail, text } = unserved;
     match &at.step.on_mailet {

@@ -1,13 +1,15 @@
 //! One step of a processor: the mail is split by the matcher, the part that is taken is served, and the rest passes by.
-ghost use Rattle.std.specs.Prelude.{◌≡◌, ◌<◌, ◌+◌, ◌^◌, true, length, IfOk};
+ghost use Rattle.std.specs.Prelude.{◌≡◌, true, length, IfOk};
 ghost use Rattle.std.specs.List.{list_any};
 ghost use Rattle.mj_address.specs.Masks.{left, taken};
-ghost use Rattle.mj_container.specs.Running.{both, part as part_of, parted, served as served_of, split as split_of};
+ghost use Rattle.mj_container.specs.Running.{both, parted, served as served_of, split as split_of};
+ghost use Rattle.mj_container.specs.Sound.{IsFit};
 ghost use Rattle.mj_container.specs.Verdict.{verdict};
 ghost use Rattle.mj_mail.specs.declared.fact.Outcome.{Outcome as OutcomeValue};
 ghost use Rattle.mj_mail.specs.declared.mail.Mail.{Mail as MailValue};
-ghost use Rattle.mj_plan.specs.Sound.{is_matcher};
-ghost use Rattle.mj_split.specs.Parts.{AreLevel, IsLevel, goes_on};
+ghost use Rattle.mj_mail.specs.Mail.{restrict};
+ghost use Rattle.mj_plan.specs.Sound.{IsSound, is_mailet, is_matcher, names_of};
+ghost use Rattle.mj_split.specs.Parts.{AreFit, for_any, goes_on};
 
 use crate::judge::{Judged, judge};
 use crate::leave::leave_failed;
@@ -33,12 +35,14 @@ pub fn take_step(
     mail: Mail,
     out: &mut Outcome,
 ) -> Result<Parts, Memory>
+    requires plan { IsSound at.plan.now }
     requires matcher { is_matcher at.step.now.matcher ≡ true }
-    requires young { mail.hops + 1 < 2 ^ 32 }
+    requires mailet { is_mailet (names_of at.plan.now.processors) at.step.now.mailet ≡ true }
+    requires fit { IsFit mail }
     ensures outcome { IfOk result (λ parts. (on : MailValue → OutcomeValue) →
         both out.new (both (goes_on on parts.served) (goes_on on parts.rest))
         ≡ both out.old (split_of at.entry.plan.now at.entry.name.now at.entry.number at.entry.step.now on mail (verdict at.entry.plan.now at.entry.step.now mail))) }
-    ensures hops { IfOk result (λ parts. AreLevel mail.hops parts) }
+    ensures fit { IfOk result (λ parts. AreFit parts) }
 {
     match judge(alloc, at.plan, at.step, &mail)? {
         Judged::Leaves { state, reason } => {
@@ -61,11 +65,13 @@ fn split(
     out: &mut Outcome,
 ) -> Result<Parts, Memory>
     requires mask { length mask.now ≡ length mail.recipients }
-    requires young { mail.hops + 1 < 2 ^ 32 }
+    requires plan { IsSound at.plan.now }
+    requires mailet { is_mailet (names_of at.plan.now.processors) at.step.now.mailet ≡ true }
+    requires fit { IsFit mail }
     ensures outcome { IfOk result (λ parts. (on : MailValue → OutcomeValue) →
         both out.new (both (goes_on on parts.served) (goes_on on parts.rest))
         ≡ both out.old (parted (served_of at.entry.plan.now at.entry.name.now at.entry.number at.entry.step.now on) on mail (taken mask.now mail.recipients) (left mask.now mail.recipients))) }
-    ensures hops { IfOk result (λ parts. AreLevel mail.hops parts) }
+    ensures fit { IfOk result (λ parts. AreFit parts) }
 {
     if !takes_some(mask) {
         return Ok(Parts {
@@ -88,22 +94,20 @@ fn takes_some(mask: &[bool]) -> bool
 /// The mail for those whom the mask takes, and for the others, if there are any. Only where there are both is it copied.
 fn cut(alloc: Global, mail: Mail, mask: &[bool]) -> Result<(Mail, Option<Mail>), Memory>
     requires { length mask.now ≡ length mail.recipients }
-    ensures taken { IfOk result (λ parts. parts.0 ≡ record mail { recipients = taken mask.now mail.recipients }) }
-    ensures left { IfOk result (λ parts. (on : MailValue → OutcomeValue) → goes_on on parts.1 ≡ part_of on mail (left mask.now mail.recipients)) }
-    ensures hops { IfOk result (λ parts. IsLevel mail.hops parts.1) }
+    ensures taken { IfOk result (λ parts. parts.0 ≡ restrict mail (taken mask.now mail.recipients)) }
+    ensures left { IfOk result (λ parts. parts.1 ≡ for_any mail (left mask.now mail.recipients)) }
 {
     let mut mail = mail;
     let recipients = mem::replace(&mut mail.recipients, Recipients::new(alloc));
     let (taken, left) = recipients.split(alloc, mask)?;
-    let rest = rest_of(alloc, &mail, left)?;
+    let rest = for_any(alloc, &mail, left)?;
     mail.recipients = taken;
     Ok((mail, rest))
 }
 
 /// The mail for these recipients, if there are any.
-fn rest_of(alloc: Global, mail: &Mail, recipients: Recipients) -> Result<Option<Mail>, Memory>
-    ensures rest { IfOk result (λ rest. (on : MailValue → OutcomeValue) → goes_on on rest ≡ part_of on mail.now recipients) }
-    ensures hops { IfOk result (λ rest. IsLevel mail.now.hops rest) }
+fn for_any(alloc: Global, mail: &Mail, recipients: Recipients) -> Result<Option<Mail>, Memory>
+    ensures { IfOk result (λ rest. rest ≡ for_any mail.now recipients) }
 {
     if recipients.is_empty() {
         return Ok(None);

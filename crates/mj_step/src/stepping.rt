@@ -1,6 +1,7 @@
 //! What one step makes of a mail under a plan.
-ghost use Rattle.std.specs.Prelude.{◌≡◌, ◌<◌, ◌+◌, ◌^◌, IfOk};
+ghost use Rattle.std.specs.Prelude.{◌≡◌, true, IfOk};
 ghost use Rattle.mj_container.specs.Running.{drafts, step as step_of};
+ghost use Rattle.mj_container.specs.Sound.{is_sound};
 ghost use Rattle.mj_mail.specs.Entry.{kept};
 ghost use Rattle.mj_mail.specs.Outcome.{numbered};
 ghost use Rattle.mj_plan.specs.Sound.{IsSound};
@@ -12,7 +13,7 @@ use mj_plan::Plan;
 use mj_split::run_processor;
 use std::alloc::Global;
 
-/// What a step makes of a mail by these replies, its children numbered. Where the entry of the step would have more than
+/// What a step makes of a sound mail by these replies, its children numbered. Where the entry of the step would have more than
 /// 67,108,864 bytes, it is the fact Overrun alone.
 pub fn step(
     alloc: Global,
@@ -20,8 +21,8 @@ pub fn step(
     mail: &Mail,
     replies: &Items<Reply>,
 ) -> Result<Outcome, Memory>
-    requires sound { IsSound plan.now }
-    requires young { mail.now.hops + 1 < 2 ^ 32 }
+    requires plan { IsSound plan.now }
+    requires mail { is_sound plan.now mail.now ≡ true }
     ensures { IfOk result (λ outcome. outcome ≡ step_of plan.now mail.now replies.now) }
 {
     let outcome = visit(alloc, plan, mail)?;
@@ -45,8 +46,8 @@ fn keep(
 
 /// What becomes of a mail where it stands. One in a processor with too many hops has looped.
 fn visit(alloc: Global, plan: &Plan, mail: &Mail) -> Result<Outcome, Memory>
-    requires sound { IsSound plan.now }
-    requires young { mail.now.hops + 1 < 2 ^ 32 }
+    requires plan { IsSound plan.now }
+    requires mail { is_sound plan.now mail.now ≡ true }
     ensures { IfOk result (λ outcome. outcome ≡ numbered (drafts plan.now mail.now.stage mail.now)) }
 {
     match &mail.stage {

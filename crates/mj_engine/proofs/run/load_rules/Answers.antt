@@ -1,4 +1,4 @@
-use Rattle.std.proofs.Common.{◌≡◌, ap, subst, ◌∙◌, codes}
+use Rattle.std.proofs.Common.{ap, subst, ◌∙◌, codes}
 use Rattle.std.proofs.lemmas.Option.{IfSome_then}
 use Rattle.mj_io.specs.Folder.{file_at}
 use Rattle.mj_engine.specs.Config.{configuration}

@@ -1,4 +1,4 @@
-use Rattle.std.proofs.Common.{◌≡◌, ◌∙◌, Err, subst}
+use Rattle.std.proofs.Common.{◌∙◌, Err, subst}
 use Rattle.std.proofs.lemmas.Option.{IfSome_then}
 use Rattle.mj_config_walk.specs.declared.fault.PlanFault.TheVariants.{Refused}
 use Rattle.mj_engine.specs.Run.{GivesOutput, output}

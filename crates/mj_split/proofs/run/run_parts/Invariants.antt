@@ -1,6 +1,6 @@
 use Rattle.std.proofs.Common.{◌≡◌, length}
 use Rattle.mj_container.specs.Running.{both, run}
-use Rattle.mj_split.specs.Parts.{WaitLevel}
+use Rattle.mj_split.specs.Parts.{WaitFit}
 use Rattle.mj_split.proofs.Turns.{pending, weight}
 use Rattle.mj_split.proofs.run.run_parts.Given as goal
 
@@ -8,7 +8,7 @@ use Rattle.mj_split.proofs.run.run_parts.Given as goal
 abbrev pub invariant-loop-part : goal.invariant-loop-part
 invariant-loop-part l = record {
   told : both l.out (pending l.plan l.processor.name l.processor.steps l.waiting) ≡ run l.plan l.processor.name 1 l.processor.steps l.fn.mail;
-  level : WaitLevel l.fn.mail.hops l.waiting;
+  fit : WaitFit l.waiting;
 }
 
 abbrev pub decreases-loop-part : goal.decreases-loop-part
