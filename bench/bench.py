@@ -21,6 +21,10 @@ Shapes:
               head through one step that takes all and lets them go on, and through 100; N mails through `All`, and
               through three processors of five steps; one mail of 500 recipients at 500 domains, with 16,000 fields,
               through 199 matchers of 100 conditions inside 16 composites
+  mailets     each against the first of its pair: 100 mails of 500 recipients through 10 and 1,000 rows of rewriting, each
+              above an empty run of its configuration; 1,000 mails with a head of 50,000 bytes to which one step appends a
+              field, and 100, and 100 mails of 13,000 fields from which it removes one name, and 100, each above the same
+              mails without; 100 notices about 1 recipient, and about 500; N mails through `All`, and through ten mailets
   plan        a configuration of 1 MB in many steps, and one in many rows of `[[rewrite]]`, with no mail: the time above
               that of an empty run, against what `toml` alone takes for the same bytes, and the peak memory above that
               of an empty run
@@ -124,6 +128,27 @@ FIVE_EACH = (root(*PASSED, ('"All"', to_processor("second")))
              + '[[processor]]\nname = "second"\n' + matched(*PASSED, ('"All"', to_processor("third")))
              + '[[processor]]\nname = "third"\n' + matched(*PASSED, ('"All"', TO_REPOSITORY)) + processor("error"))
 
+# A mail is marked, changed and rewritten by nine mailets, and delivered by the tenth.
+MARKED = [
+    'class = "RemoveMimeHeader"\nname = "X-Seen, X-Level"',
+    'class = "SetMailAttribute"\nattributes = { seen = "yes", level = "3" }',
+    'class = "SetMimeHeader"\nname = "X-Site"\nvalue = "mx.example.org"',
+    'class = "MailAttributesToMimeHeaders"\nsimplemapping = ["seen;X-Seen", "level;X-Level"]',
+    'class = "AddSubjectPrefix"\nsubjectPrefix = "[example]"',
+    'class = "RemoveMailAttribute"\nname = "level"',
+    'class = "RecipientToLowerCase"',
+    'class = "PostmasterAlias"',
+    'class = "RecipientRewriteTable"',
+    'class = "LocalDelivery"',
+]
+
+
+def mappings(count):
+    """So many rows of rewriting, of which the last is of the domain of all recipients."""
+    rows = "".join(f'[[rewrite]]\nfrom = "alias{number}@example.net"\nto = ["bob@example.org"]\n' for number in range(count - 1))
+    return rows + '[[rewrite]]\ndomain = "example.net"\nto_domain = "example.org"\n'
+
+
 CRATES = Path(__file__).resolve().parents[1] / "crates"
 PROGRAM = CRATES / "james_cli/out/james_cli"
 YARDSTICK = CRATES / "toml_yardstick/out/toml_yardstick"
@@ -131,7 +156,7 @@ QUEUE = CRATES / "ready_bench/out/ready_bench"
 LOG = CRATES / "log_bench/out/log_bench"
 APPEND = Path(__file__).resolve().parent / "append.c"
 IN_MEMORY = Path("/dev/shm")
-SHAPES = ("small", "large", "rate", "heads", "recipients", "hops", "processors", "matching", "plan", "queue", "log")
+SHAPES = ("small", "large", "rate", "heads", "recipients", "hops", "processors", "matching", "mailets", "plan", "queue", "log")
 
 MAX_FILE = 16_777_216
 LONG_HEAD = 65_000
@@ -574,6 +599,72 @@ class Bench:
     def five_steps(self):
         content = mail(body_size=self.body_size)
         configurations = {"All": CONFIGURATION, "three processors of five steps": SPOOL + FIVE_EACH}
+        folders = [self.folder(name, content, self.mails, text) for name, text in configurations.items()]
+        rounds = self.measure(*[folder.run_once for folder in folders])
+        self.row_pair([f"{self.mails:,} mails, {name}" for name in configurations], rounds)
+        for folder in folders:
+            folder.remove()
+
+    def mailets(self):
+        title("mailets", "time", "by the first")
+        self.mapped()
+        self.added_fields()
+        self.removed_fields()
+        self.notices()
+        self.ten_mailets()
+
+    def mapped(self):
+        """The reading of the configuration is taken off."""
+        content = mail(recipients=500, body_size=self.body_size)
+        tables = {count: SPOOL + mappings(count) + processor("root", 'class = "RecipientRewriteTable"', TO_REPOSITORY)
+                  + processor("error") for count in (10, 1_000)}
+        full = [self.folder(f"mapped {count}", content, 100, table) for count, table in tables.items()]
+        empty = [self.folder(f"mapped {count} empty", configuration=table) for count, table in tables.items()]
+        rounds = self.measure(*[folder.run_once for folder in full + empty])
+        self.row_pair([f"500 recipients, {count:,} mappings" for count in tables], rounds, above=(2, 3))
+        for folder in full + empty:
+            folder.remove()
+
+    def above_plain(self, names, count, content, plain, *changed):
+        """So many mails whose head is changed, above the same mails with the plain steps."""
+        folders = [self.folder(name, content, count, SPOOL + processor("root", *steps, TO_REPOSITORY) + processor("error"))
+                   for name, steps in zip((*names, "plain"), (*changed, plain))]
+        rounds = self.measure(*[folder.run_once for folder in folders])
+        self.row_pair(names, rounds, above=(2, 2))
+        for folder in folders:
+            folder.remove()
+
+    def added_fields(self):
+        content = mail(b"X: " + b"x" * 49_995 + b"\r\n", body_size=self.body_size)
+        marked = 'class = "SetMailAttribute"\nattributes = { a = "1" }'
+        pairs = [f'"a;X-{number}"' for number in range(100)]
+        changed = [(marked, f'class = "MailAttributesToMimeHeaders"\nsimplemapping = [{", ".join(pairs[:count])}]')
+                   for count in (1, 100)]
+        self.above_plain(("1 field added to 50 kB", "100 fields added to 50 kB"), 1_000, content, (marked,), *changed)
+
+    def removed_fields(self):
+        content = mail(b"X:\r\n" * 13_000, body_size=self.body_size)
+        names = [f"Y-{number}" for number in range(100)]
+        changed = [(f'class = "RemoveMimeHeader"\nname = "{",".join(names[:count])}"',) for count in (1, 100)]
+        self.above_plain(("1 name removed, 13,000 fields", "100 names removed, 13,000 fields"), 100, content, (), *changed)
+
+    def notices(self):
+        """A notice has a null sender, and is kept."""
+        steps = root(('"SenderIsNull"', TO_REPOSITORY), ('"All"', 'class = "Bounce"\npassThrough = false'))
+        folders = []
+        for count in (1, 500):
+            content = mail(recipients=count, body_size=self.body_size)
+            folders.append(self.folder(f"notices {count}", content, 100, SPOOL + steps + processor("error")))
+            folders[-1].lines_each = 2
+        rounds = self.measure(*[folder.run_once for folder in folders])
+        self.row_pair(("notices about 1 recipient", "notices about 500 recipients"), rounds)
+        for folder in folders:
+            folder.remove()
+
+    def ten_mailets(self):
+        content = mail(body_size=self.body_size)
+        configurations = {"All": CONFIGURATION,
+                          "ten mailets": SPOOL + mappings(10) + processor("root", *MARKED) + processor("error")}
         folders = [self.folder(name, content, self.mails, text) for name, text in configurations.items()]
         rounds = self.measure(*[folder.run_once for folder in folders])
         self.row_pair([f"{self.mails:,} mails, {name}" for name in configurations], rounds)

@@ -345,15 +345,15 @@ fn serves_mails(rt: HostRuntime) -> Result<(), Fail> {
     Ok(())
 }
 
-/// A mail whose head has room for eight bytes more.
-fn long_mail(alloc: Global) -> Result<String, Memory> {
-    let text = "a".repeat(alloc, 65_518)?;
+/// A mail whose head is one field: this text, and so many bytes behind it.
+fn long_mail(alloc: Global, front: &str, bytes: usize) -> Result<String, Memory> {
+    let text = "a".repeat(alloc, bytes)?;
     Ok(format!(in alloc;
-        "MAIL FROM:<cara@example.net>\r\nRCPT TO:<ann@example.org>\r\nDATA\r\nX-Long: {text}\r\n\r\nhello\r\n"
+        "MAIL FROM:<cara@example.net>\r\nRCPT TO:<ann@example.org>\r\nDATA\r\n{front}{text}\r\n\r\nhello\r\n"
     )?)
 }
 
-/// What becomes of it.
+/// What becomes of one whose head has room for eight bytes more.
 const OF_LONG: &str = r#"{ match = "All", class = "SetMimeHeader", name = "X-A", value = "1" },
 =
 1#1 deposit rest ann@example.org 65545
@@ -376,8 +376,18 @@ const OF_LONG: &str = r#"{ match = "All", class = "SetMimeHeader", name = "X-A",
 =
 1#1 deposit rest ann@example.org 65537"#;
 
+/// What becomes of one with a long Subject, which is folded and has a bare CR.
+const OF_LONG_SUBJECT: &str =
+    r#"{ match = "All", class = "AddSubjectPrefix", subjectPrefix = "[x]" },
+{ match = "SubjectStartsWith=[x] one two a", class = "ToRepository", repositoryPath = "a" },
+=
+1#1 deposit a ann@example.org 60032"#;
+
 #[test]
-fn refuses_long_heads(rt: HostRuntime) -> Result<(), Fail> {
-    let mail = long_mail(rt.alloc())?;
-    check_rows(&rt, mail.as_str(), OF_LONG)
+fn changes_long_heads(rt: HostRuntime) -> Result<(), Fail> {
+    let alloc = rt.alloc();
+    let mail = long_mail(alloc, "X-Long: ", 65_518)?;
+    check_rows(&rt, mail.as_str(), OF_LONG)?;
+    let mail = long_mail(alloc, "Subject: one\rtwo\r\n ", 60_000)?;
+    check_rows(&rt, mail.as_str(), OF_LONG_SUBJECT)
 }
