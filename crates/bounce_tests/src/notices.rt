@@ -1,30 +1,31 @@
 //! Notices, byte for byte.
 ghost use Rattle.std.specs.Prelude.{◌+◌, ◌<◌, ◌^◌, IsTrue};
 
-use crate::rows::{About, failures, mail, plan, shown, with_crlf};
+use crate::rows::{assert_so, failures, is_text, mail, plan, shown};
 use mj_bounce::{bounce_mail, postmaster_mail};
-use mj_mail::Mail;
+use mj_fields::Bytes;
+use mj_mail::{Failure, Mail};
+use mj_plan::Plan;
 use std::alloc::Global;
 use std::test::Fail;
 
-/// A mail, its failures, and the notice to the sender: no line where there is none.
-struct Bounce {
-    about: About,
-    failed: &'static str,
+/// A mail file and when its mail is due, what is said of it, and the notice behind its recipient: nothing where there is none.
+struct Case {
+    name: &'static str,
+    file: &'static [u8],
+    due: u64,
+    said: &'static str,
     notice: &'static str,
 }
 
-const BOUNCES: [Bounce; 4] = [
-    Bounce {
-        about: About {
-            sender: b"ann@example.org",
-            error: b"attempts spent",
-            head: b"Subject: one\r\n\r\n",
-            hops: 3,
-            due: 1_704_067_200_000,
-        },
-        failed: "d3@example.net 550 no such user\n",
-        notice: "7/2 <> <ann@example.org> root 0 0 4 1704067200000 346
+/// Failures, and the notice to the sender. The first one has 346 bytes.
+const BOUNCES: [Case; 4] = [
+    Case {
+        name: "one failure",
+        file: b"MAIL FROM:<ann@example.org>\r\nRCPT TO:<d3@example.net>\r\nDATA\r\nSubject: one\r\n\r\n",
+        due: 1_704_067_200_000,
+        said: "d3@example.net 550 no such user",
+        notice: "ann@example.org
 From: postmaster@example.org
 To: ann@example.org
 Subject: Undelivered mail returned to sender
@@ -42,27 +43,19 @@ The head of your message follows.
 Subject: one
 ",
     },
-    Bounce {
-        about: About {
-            sender: b"",
-            error: b"attempts spent",
-            head: b"Subject: one\r\n\r\n",
-            hops: 3,
-            due: 1_704_067_200_000,
-        },
-        failed: "d3@example.net 550 no such user\n",
+    Case {
+        name: "a null sender",
+        file: b"MAIL FROM:<>\r\nRCPT TO:<d3@example.net>\r\nDATA\r\nSubject: one\r\n\r\n",
+        due: 1_704_067_200_000,
+        said: "d3@example.net 550 no such user",
         notice: "",
     },
-    Bounce {
-        about: About {
-            sender: b"Ann.Lee@Mail.Example.COM",
-            error: b"",
-            head: b"Received: by a\r\n (b)\r\nSubject:two\r\n\r\nbody",
-            hops: 0,
-            due: 951_827_696_789,
-        },
-        failed: "Zed@example.net 550 5.1.1 no such user\nann@EXAMPLE.com timed out\n",
-        notice: "7/2 <> <Ann.Lee@Mail.Example.COM> root 0 0 1 951827696789 413
+    Case {
+        name: "two failures, and a folded field",
+        file: b"MAIL FROM:<Ann.Lee@Mail.Example.COM>\r\nRCPT TO:<d3@example.net>\r\nDATA\r\nReceived: by a\r\n (b)\r\nSubject:two\r\n\r\nbody",
+        due: 951_827_696_789,
+        said: "Zed@example.net 550 5.1.1 no such user\nann@EXAMPLE.com timed out",
+        notice: "Ann.Lee@Mail.Example.COM
 From: postmaster@example.org
 To: Ann.Lee@Mail.Example.COM
 Subject: Undelivered mail returned to sender
@@ -83,16 +76,12 @@ Received: by a
 Subject:two
 ",
     },
-    Bounce {
-        about: About {
-            sender: b"ann@example.org",
-            error: b"",
-            head: b"",
-            hops: 4_294_967_294,
-            due: 253_402_300_799_999,
-        },
-        failed: "",
-        notice: "7/2 <> <ann@example.org> root 0 0 4294967295 253402300799999 296
+    Case {
+        name: "no failure, and the last date",
+        file: b"MAIL FROM:<ann@example.org>\r\nRCPT TO:<d3@example.net>\r\nDATA\r\n",
+        due: 253_402_300_799_999,
+        said: "",
+        notice: "ann@example.org
 From: postmaster@example.org
 To: ann@example.org
 Subject: Undelivered mail returned to sender
@@ -110,47 +99,14 @@ The head of your message follows.
     },
 ];
 
-/// Whether a notice about the mail can be made: it has room for one hop more, and a date before the year 10000.
-fn can_be_answered(mail: &Mail) -> bool
-    ensures hops { IsTrue result → mail.now.hops + 1 < 2 ^ 32 }
-    ensures due { IsTrue result → mail.now.due < 253_402_300_800_000 }
-{
-    mail.hops < u32::MAX && mail.due < 253_402_300_800_000
-}
-
-/// The notice to the sender as a text, of nothing where there is none.
-fn bounced(alloc: Global, bounce: &Bounce) -> Result<Vec<u8>, Fail> {
-    let mail = mail(alloc, &bounce.about)?;
-    if !can_be_answered(&mail) {
-        return Ok(Vec::from_slice(alloc, b"no notice")?);
-    }
-    let failed = failures(alloc, bounce.failed)?;
-    match bounce_mail(alloc, &plan(alloc)?, &mail, &failed)? {
-        Some(notice) => shown(alloc, &notice),
-        None => Ok(Vec::new(alloc)),
-    }
-}
-
-#[test]
-fn notices_to_the_sender(rt: HostRuntime) -> Result<(), Fail> {
-    for bounce in &BOUNCES {
-        let text = bounced(rt.alloc(), bounce)?;
-        assert_eq!(rt; text, with_crlf(rt.alloc(), bounce.notice)?);
-    }
-    Ok(())
-}
-
-/// A mail, and the notice to the postmaster.
-const TROUBLES: [(About, &str); 2] = [
-    (
-        About {
-            sender: b"ann@example.org",
-            error: b"processor root step 2: no such state",
-            head: b"Subject: one\r\n\r\n",
-            hops: 1,
-            due: 1_704_067_200_000,
-        },
-        "7/2 <> <postmaster@example.org> root 0 0 2 1704067200000 308
+/// An error, and the notice to the postmaster.
+const TROUBLES: [Case; 2] = [
+    Case {
+        name: "an error",
+        file: b"MAIL FROM:<ann@example.org>\r\nRCPT TO:<d3@example.net>\r\nDATA\r\nSubject: one\r\n\r\n",
+        due: 1_704_067_200_000,
+        said: "processor root step 2: no such state",
+        notice: "postmaster@example.org
 From: postmaster@example.org
 To: postmaster@example.org
 Subject: Notice to the postmaster
@@ -165,16 +121,13 @@ The head of your message follows.
 
 Subject: one
 ",
-    ),
-    (
-        About {
-            sender: b"",
-            error: b"",
-            head: b"\r\n",
-            hops: 0,
-            due: 0,
-        },
-        "7/2 <> <postmaster@example.org> root 0 0 1 0 258
+    },
+    Case {
+        name: "a null sender, and no error",
+        file: b"MAIL FROM:<>\r\nRCPT TO:<d3@example.net>\r\nDATA\r\n\r\n",
+        due: 0,
+        said: "",
+        notice: "postmaster@example.org
 From: postmaster@example.org
 To: postmaster@example.org
 Subject: Notice to the postmaster
@@ -188,24 +141,65 @@ Error:\x20
 The head of your message follows.
 
 ",
-    ),
+    },
 ];
 
-/// The notice to the postmaster as a text.
-fn troubled(alloc: Global, about: &About) -> Result<Vec<u8>, Fail> {
-    let mail = mail(alloc, about)?;
-    if !can_be_answered(&mail) {
+/// Whether a notice about the mail can be made: it has room for one hop more, and a date before the year 10000.
+fn can_be_answered(mail: &Mail) -> bool
+    ensures hops { IsTrue result → mail.now.hops + 1 < 2 ^ 32 }
+    ensures due { IsTrue result → mail.now.due < 253_402_300_800_000 }
+{
+    mail.hops < u32::MAX && mail.due < 253_402_300_800_000
+}
+
+/// The notice to the sender as a text, of nothing where there is none.
+fn bounced(alloc: Global, plan: &Plan, mail: &Mail, failed: &[Failure]) -> Result<Vec<u8>, Fail> {
+    if !can_be_answered(mail) {
         return Ok(Vec::from_slice(alloc, b"no notice")?);
     }
-    let notice = postmaster_mail(alloc, &plan(alloc)?, &mail)?;
-    shown(alloc, &notice)
+    match bounce_mail(alloc, plan, mail, failed)? {
+        Some(notice) => shown(alloc, &notice, mail),
+        None => Ok(Vec::new(alloc)),
+    }
+}
+
+fn is_bounced(alloc: Global, plan: &Plan, case: &Case) -> Result<bool, Fail> {
+    let failed = failures(alloc, case.said)?;
+    let mail = mail(alloc, case.file, case.due)?;
+    let text = bounced(alloc, plan, &mail, &failed)?;
+    is_text(alloc, &text, case.notice)
+}
+
+#[test]
+fn notices_to_the_sender(rt: HostRuntime) -> Result<(), Fail> {
+    let plan = plan(rt.alloc())?;
+    for case in &BOUNCES {
+        assert_so(&rt, is_bounced(rt.alloc(), &plan, case)?, case.name);
+    }
+    Ok(())
+}
+
+/// The notice to the postmaster as a text.
+fn noted(alloc: Global, plan: &Plan, mail: &Mail) -> Result<Vec<u8>, Fail> {
+    if !can_be_answered(mail) {
+        return Ok(Vec::from_slice(alloc, b"no notice")?);
+    }
+    let notice = postmaster_mail(alloc, plan, mail)?;
+    shown(alloc, &notice, mail)
+}
+
+fn is_noted(alloc: Global, plan: &Plan, case: &Case) -> Result<bool, Fail> {
+    let mut mail = mail(alloc, case.file, case.due)?;
+    mail.error = Bytes::from_slice(alloc, case.said.as_bytes())?;
+    let text = noted(alloc, plan, &mail)?;
+    is_text(alloc, &text, case.notice)
 }
 
 #[test]
 fn notices_to_the_postmaster(rt: HostRuntime) -> Result<(), Fail> {
-    for (about, notice) in &TROUBLES {
-        let text = troubled(rt.alloc(), about)?;
-        assert_eq!(rt; text, with_crlf(rt.alloc(), notice)?);
+    let plan = plan(rt.alloc())?;
+    for case in &TROUBLES {
+        assert_so(&rt, is_noted(rt.alloc(), &plan, case)?, case.name);
     }
     Ok(())
 }

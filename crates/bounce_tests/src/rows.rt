@@ -1,24 +1,18 @@
-//! What the tests share: a plan, a mail, and what a notice about it must be.
-use mj_address::{Address, Recipients};
+//! What the tests share: a plan, mails, and notices as texts.
+ghost use Rattle.std.specs.Prelude.{◌<◌, ◌^◌, length, IfOk};
+
+use mj_address::Address;
 use mj_config::read_plan;
 use mj_fields::Bytes;
-use mj_head::read_head;
-use mj_mail::{Attributes, Body, Failure, Mail, Name, Stage, name_text, put_number};
+use mj_mail::{Body, Failure, Mail, NewMail, Stage};
+use mj_mailfile::read_mail_file;
 use mj_plan::Plan;
 use std::alloc::Global;
+use std::process::Abort;
 use std::test::Fail;
 
 const PLAN: &[u8] =
     b"[spool]\nhost_name = \"mx.example.org\"\npostmaster = \"postmaster@example.org\"\nlocal_hosts = [\"example.org\"]\nlocal_users = [\"ann\"]\nstart = \"2024-01-01T00:00:00Z\"\n[[processor]]\nname = \"root\"\n[[processor]]\nname = \"error\"\n";
-
-/// A mail to send a notice about. A sender of no bytes is null.
-pub(crate) struct About {
-    pub sender: &'static [u8],
-    pub error: &'static [u8],
-    pub head: &'static [u8],
-    pub hops: u32,
-    pub due: u64,
-}
 
 /// The plan of the host `mx.example.org`, whose postmaster is `postmaster@example.org`.
 pub(crate) fn plan(alloc: Global) -> Result<Plan, Fail> {
@@ -28,128 +22,52 @@ pub(crate) fn plan(alloc: Global) -> Result<Plan, Fail> {
     }
 }
 
-fn address(alloc: Global, text: &[u8]) -> Result<Address, Fail> {
-    match Address::read(alloc, text) {
-        Ok(address) => Ok(address),
+fn new_mail(alloc: Global, file: &[u8]) -> Result<NewMail, Fail>
+    ensures { IfOk result (λ mail. length mail.body < 2 ^ 32) }
+{
+    match read_mail_file(alloc, file) {
+        Ok(mail) => Ok(mail),
         Err(fault) => Err(Fail::from(fault)),
     }
 }
 
-fn sender(alloc: Global, text: &[u8]) -> Result<Option<Address>, Fail> {
-    if text.is_empty() {
-        return Ok(None);
-    }
-    Ok(Some(address(alloc, text)?))
+/// The mail of a file, which is due at this moment.
+pub(crate) fn mail(alloc: Global, file: &[u8], due: u64) -> Result<Mail, Fail> {
+    let new = new_mail(alloc, file)?;
+    Ok(new.first(alloc, due, 7)?)
 }
 
-fn recipients(alloc: Global) -> Result<Recipients, Fail> {
-    let mut recipients = Recipients::new(alloc);
-    recipients.add(address(alloc, b"bob@example.org")?)?;
-    recipients.add(address(alloc, b"eve@example.com")?)?;
-    Ok(recipients)
-}
-
-fn attributes(alloc: Global) -> Result<Attributes, Fail> {
-    let mut attributes = Attributes::new(alloc);
-    attributes.set(alloc, b"state", b"sent")?;
-    Ok(attributes)
-}
-
-/// The mail: the second child of the mail of number 7, with an attribute, at the processor `error`.
-pub(crate) fn mail(alloc: Global, about: &About) -> Result<Mail, Fail> {
-    let head = match read_head(alloc, about.head) {
-        Ok((head, _)) => head,
-        Err(fault) => return Err(Fail::from(fault)),
+fn failure(alloc: Global, line: &str) -> Result<Failure, Fail> {
+    let (recipient, reason) = match line.split_once(' ') {
+        Some(parts) => parts,
+        None => (line, ""),
     };
-    let stage = Stage::Process(Bytes::from_slice(alloc, b"error")?);
-    Ok(Mail {
-        name: Name::first(alloc, 7).child(2)?,
-        sender: sender(alloc, about.sender)?,
-        recipients: recipients(alloc)?,
-        attributes: attributes(alloc)?,
-        stage,
-        error: Bytes::from_slice(alloc, about.error)?,
-        head,
-        body: Body::Original {
-            number: 7,
-            length: 3,
-        },
-        hops: about.hops,
-        due: about.due,
-    })
+    let reason = Bytes::from_slice(alloc, reason.as_bytes())?;
+    let recipient = Address::read(alloc, recipient.as_bytes())?;
+    Ok(Failure { recipient, reason })
 }
 
 /// The failures of these lines: an address, a space and the reason.
 pub(crate) fn failures(alloc: Global, lines: &str) -> Result<Vec<Failure>, Fail> {
     let mut failures = Vec::new(alloc);
     for line in lines.lines() {
-        let (recipient, reason) = match line.split_once(' ') {
-            Some(parts) => parts,
-            None => (line, ""),
-        };
-        failures.push(Failure {
-            recipient: address(alloc, recipient.as_bytes())?,
-            reason: Bytes::from_slice(alloc, reason.as_bytes())?,
-        })?;
+        failures.push(failure(alloc, line)?)?;
     }
     Ok(failures)
 }
 
-/// Puts an address in angle brackets at the end.
-fn put_path(alloc: Global, text: &mut Bytes, address: &Address) -> Result<(), Fail> {
-    let mut spelled = Vec::from_slice(alloc, b"<")?;
-    address.write_to(&mut spelled)?;
-    text.extend_two(&spelled, b"> ")?;
-    Ok(())
-}
-
-/// Puts the sender and the recipients at the end.
-fn put_paths(alloc: Global, text: &mut Bytes, notice: &Mail) -> Result<(), Fail> {
-    match &notice.sender {
-        Some(sender) => put_path(alloc, text, sender)?,
-        None => text.extend(b"<> ")?,
-    }
-    for recipient in notice.recipients.as_slice() {
-        put_path(alloc, text, recipient)?;
-    }
-    Ok(())
-}
-
-/// Puts where the mail stands at the end.
-fn put_stage(text: &mut Bytes, stage: &Stage) -> Result<(), Fail> {
+fn is_root(stage: &Stage) -> bool {
     match stage {
-        Stage::Process(state) => text.extend(state.as_slice())?,
-        Stage::Remote { .. } => text.extend(b"remote")?,
+        Stage::Process(state) => state.as_slice() == b"root".as_slice(),
+        Stage::Remote { .. } => false,
     }
-    Ok(())
 }
 
-/// Puts numbers at the end, each behind a space.
-fn put_numbers(alloc: Global, text: &mut Bytes, numbers: &[u64]) -> Result<(), Fail> {
-    for number in numbers {
-        text.push(b' ')?;
-        put_number(alloc, text, *number)?;
-    }
-    Ok(())
-}
-
-/// The envelope on a line: the name, the sender, the recipients, the stage, and then the error's length, the
-/// number of attributes, the hops, the due moment and the size of the message.
-fn envelope(alloc: Global, notice: &Mail) -> Result<Bytes, Fail> {
-    let mut text = name_text(alloc, &notice.name)?;
-    text.push(b' ')?;
-    put_paths(alloc, &mut text, notice)?;
-    put_stage(&mut text, &notice.stage)?;
-    let numbers = [
-        notice.error.len() as u64,
-        notice.attributes.len() as u64,
-        u64::from(notice.hops),
-        notice.due,
-        notice.size(),
-    ];
-    put_numbers(alloc, &mut text, &numbers)?;
-    text.extend(b"\r\n")?;
-    Ok(text)
+/// Whether the notice has what each notice about the mail has beside its recipient and its message.
+fn is_about(notice: &Mail, mail: &Mail) -> bool {
+    let is_new = notice.sender.is_none() && notice.attributes.is_empty() && notice.error.is_empty();
+    let is_next = notice.hops.checked_sub(1) == Some(mail.hops) && notice.due == mail.due;
+    is_new && is_next && is_root(&notice.stage)
 }
 
 /// The body, where it was made.
@@ -160,21 +78,37 @@ fn made(body: &Body) -> &[u8] {
     }
 }
 
-/// The notice as a text: its envelope on a line, its written head, the empty line and its body.
-pub(crate) fn shown(alloc: Global, notice: &Mail) -> Result<Vec<u8>, Fail> {
-    let mut text = envelope(alloc, notice)?.into_vec();
+fn put_recipients(text: &mut Vec<u8>, recipients: &[Address]) -> Result<(), Fail> {
+    for recipient in recipients {
+        recipient.write_to(text)?;
+        text.extend_from_slice(b"\r\n")?;
+    }
+    Ok(())
+}
+
+/// The notice about the mail as a text: its recipients, a line each, and its message.
+pub(crate) fn shown(alloc: Global, notice: &Mail, mail: &Mail) -> Result<Vec<u8>, Fail> {
+    let mut text = Vec::new(alloc);
+    if is_about(notice, mail) {
+        put_recipients(&mut text, notice.recipients.as_slice())?;
+    }
     notice.head.write_to(&mut text)?;
     text.extend_from_slice(b"\r\n")?;
     text.extend_from_slice(made(&notice.body))?;
     Ok(text)
 }
 
-/// These lines with CRLF at each end.
-pub(crate) fn with_crlf(alloc: Global, lines: &str) -> Result<Vec<u8>, Fail> {
-    let mut text = Vec::new(alloc);
+/// Whether the text is these lines with CRLF at each end.
+pub(crate) fn is_text(alloc: Global, text: &[u8], lines: &str) -> Result<bool, Fail> {
+    let mut want = Vec::new(alloc);
     for line in lines.lines() {
-        text.extend_from_slice(line.as_bytes())?;
-        text.extend_from_slice(b"\r\n")?;
+        want.extend_from_slice(line.as_bytes())?;
+        want.extend_from_slice(b"\r\n")?;
     }
-    Ok(text)
+    Ok(want.as_slice() == text)
+}
+
+/// Fails where it isn't so. The case is what is looked at.
+pub(crate) fn assert_so(rt: &impl Abort, is_so: bool, case: &str) {
+    assert!(rt; is_so, "at {case:?}");
 }
