@@ -1,5 +1,5 @@
 -- The sides of a mask.
-use Rattle.std.proofs.Common.{◌≡◌, Bool, true, false, not, List, [], ◌∷◌, ◌++◌, length, map, filter, if◌then◌else◌, refl, sym, ap, ◌∙◌, ℕ, arith, append-nil}
+use Rattle.std.proofs.Common.{◌≡◌, Bool, true, false, not, List, [], ◌∷◌, ◌++◌, length, map, filter, if◌then◌else◌, refl, sym, ap, ◌∙◌, ℕ, arith, append-nil, subst}
 use Rattle.std.specs.List.{AllByRecursion, IsDistinct}
 use Rattle.mj_address.specs.Masks.{taken, left}
 use Rattle.mj_address.specs.Same.{AreRecipients}
@@ -74,3 +74,7 @@ module _ (mask : List Bool) (list : List (List ℕ × List ℕ)) (all : AreRecip
 
   pub recipients_left : AreRecipients (left mask list)
   recipients_left = record { addresses = all_left _ mask list all.addresses; different = distinct_left _ mask list all.different }
+
+-- those that pass a test are one side
+pub recipients_filtered : (test : List ℕ × List ℕ → Bool) (list : List (List ℕ × List ℕ)) → AreRecipients list → AreRecipients (filter test list)
+recipients_filtered test list all = subst AreRecipients (taken_filter test list) (recipients_taken (map test list) list all)

@@ -44,6 +44,25 @@ impl Recipients {
         }
     }
 
+    /// This recipient alone.
+    pub fn one(alloc: Global, address: Address) -> Result<Recipients, AllocError>
+        ensures { IfOk result (λ recipients. recipients ≡ address ∷ []) }
+    {
+        let mut recipients = Recipients::new(alloc);
+        recipients.add(address)?;
+        Ok(recipients)
+    }
+
+    /// These addresses, no two the same. It takes no memory, and hashes none of them.
+    pub fn of_different(addresses: Vec<Address>) -> Recipients
+        requires { AreRecipients addresses.items }
+        ensures { result ≡ addresses.items }
+    {
+        Recipients {
+            kept: Kept::Plain(addresses),
+        }
+    }
+
     /// Of addresses that are the same the first, in order. Each costs one look-up by hash. Where memory
     /// runs out all are dropped.
     pub fn from_addresses(alloc: Global, addresses: Vec<Address>) -> Result<Recipients, AllocError>
