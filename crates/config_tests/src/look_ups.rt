@@ -7,10 +7,12 @@ use std::alloc::Global;
 use std::process::Abort;
 use std::test::Fail;
 
-/// A step's remote deliveries, with one retry and with three.
+/// A step's remote deliveries, with one retry and with three. The second one names a processor for what
+/// it couldn't deliver.
 const OUT: &str = "class = \"RemoteDelivery\"\noutgoing = \"out\"\nmaxRetries = 1\n";
 
-const LATE: &str = "class = \"RemoteDelivery\"\noutgoing = \"late\"\nmaxRetries = 3\n";
+const LATE: &str =
+    "class = \"RemoteDelivery\"\noutgoing = \"late\"\nmaxRetries = 3\nbounceProcessor = \"root\"\n";
 
 /// A plan whose processors `root` and `error` deliver by `out` and by `late`.
 fn delivering_plan(alloc: Global) -> Result<Plan, Fail> {
@@ -34,22 +36,36 @@ fn retries(plan: &Plan, name: &[u8]) -> Option<usize> {
     plan.schedule(name).map(|schedule| schedule.len())
 }
 
-/// Names, whether each is a processor's, and the retries of the remote delivery of that name.
-const NAMES: [(&str, (bool, Option<usize>)); 5] = [
-    ("error", (true, None)),
-    ("Error", (false, None)),
-    ("out", (false, Some(1))),
-    ("late", (false, Some(3))),
-    ("lat", (false, None)),
-];
+/// The retries of a remote delivery, and the processor to which it sends what it couldn't deliver.
+type Delivering = (usize, Option<&'static str>);
 
-fn looked_up(plan: &Plan, name: &[u8]) -> (bool, Option<usize>) {
-    (finds(plan, name), retries(plan, name))
+/// Whether the remote delivery of this name is that one.
+fn delivers(plan: &Plan, name: &[u8], want: Option<Delivering>) -> bool {
+    match (plan.delivery(name), want) {
+        (Some(delivery), Some((retries, bounce_processor))) => {
+            let found = delivery.bounce_processor.map(|name| name.as_slice());
+            delivery.schedule.len() == retries && found == bounce_processor.map(str::as_bytes)
+        }
+        (None, None) => true,
+        _ => false,
+    }
 }
 
+/// Names, whether each is a processor's, and the remote delivery of that name.
+const NAMES: [(&str, bool, Option<Delivering>); 5] = [
+    ("error", true, None),
+    ("Error", false, None),
+    ("out", false, Some((1, None))),
+    ("late", false, Some((3, Some("root")))),
+    ("lat", false, None),
+];
+
 fn check_names(rt: &impl Abort, plan: &Plan) {
-    for (name, want) in NAMES {
-        assert_so(rt, looked_up(plan, name.as_bytes()) == want, name);
+    for (name, is_processor, delivery) in NAMES {
+        let key = name.as_bytes();
+        assert_so(rt, finds(plan, key) == is_processor, name);
+        assert_so(rt, delivers(plan, key, delivery), name);
+        assert_so(rt, retries(plan, key) == delivery.map(|(n, _)| n), name);
     }
 }
 

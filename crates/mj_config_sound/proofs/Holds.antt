@@ -33,7 +33,7 @@ pub weaken : {X E : Type 0} {P Q : X → Type 0} {r : Result X E} → ((x : X) �
 weaken w h = record { of = λ x e. w x (h.of x e) }
 
 -- one reading after the other
-pub bind : {A B : Type 0} {P : A → Type 0} {Q : B → Type 0} {r : Result A PlanKind} {next : A → Result B PlanKind} → Holds P r → ((x : A) → P x → Holds Q (next x)) → Holds Q (r >>= next)
+pub bind : {A B E : Type 0} {P : A → Type 0} {Q : B → Type 0} {r : Result A E} {next : A → Result B E} → Holds P r → ((x : A) → P x → Holds Q (next x)) → Holds Q (r >>= next)
 bind {r = Ok x} h k = k x (h.of x refl)
 bind {r = Err kind} h k = err kind
 

@@ -1,5 +1,6 @@
 pub mod Fresh
 pub mod Holds
+mod Schedules
 pub mod Sorted
 pub mod SortedDocuments
 pub mod SortedNodes

@@ -15,7 +15,7 @@ use Rattle.mj_config_walk.specs.Values.{address, domain, domain_value, in_addres
 use Rattle.mj_config_walk.specs.Walk.{address_value}
 use Rattle.mj_config_sound.proofs.Holds.{Holds, choose, err, ok, skip}
 
-not_long : (most n : ℕ) → nat_lt most n ≡ false → nat_le n most ≡ true
+pub not_long : (most n : ℕ) → nat_lt most n ≡ false → nat_le n most ≡ true
 not_long most n h = grind (arith, nat_tests, h)
 
 local_by : (s : List ℕ) (long formed : Bool) → nat_lt 64 (length s) ≡ long

@@ -21,11 +21,12 @@ use Rattle.mj_config_walk.specs.declared.fault.PlanKind.{PlanKind}
 use Rattle.mj_config_walk.specs.declared.fault.PlanKind.TheVariants.{WrongType, Twice, UnknownClass, UnknownProcessor, BadArgument, TooMany}
 use Rattle.mj_config_walk.specs.Values.{required, maybe, some_or, text, texts, formed, target, address, domain_value, each, few, is_filled}
 use Rattle.mj_config_walk.specs.Arguments.{is_comma, items}
-use Rattle.mj_config_walk.specs.Mailets.{param, formed_value, target_value, list_text, names_param, named_texts, table_of_texts, attribute, attributes_param, header_mapping, mapping_param, forward_param, pass_through, outgoing_param, schedule_param, to_processor, set_mail_attribute, remove_mail_attribute, set_mime_header, remove_mime_header, attributes_to_headers, add_subject_prefix, forward, bounce, notify_postmaster, to_repository, remote_delivery, fail}
+use Rattle.mj_config_walk.specs.Mailets.{param, formed_value, target_value, list_text, names_param, named_texts, table_of_texts, attribute, attributes_param, header_mapping, mapping_param, forward_param, pass_through, outgoing_param, to_processor, set_mail_attribute, remove_mail_attribute, set_mime_header, remove_mime_header, attributes_to_headers, add_subject_prefix, forward, bounce, notify_postmaster, to_repository, remote_delivery, fail}
 use Rattle.mj_config_walk.specs.declared.classes.Class.{Class}
 use Rattle.mj_config_walk.specs.declared.classes.Class.TheVariants as class
 use Rattle.mj_config_walk.specs.Classes.{class_in, class_rows, of_class, of_known, mailet_of}
 use Rattle.mj_config_sound.proofs.Holds.{Holds, ok, err, bind, skip, checks, form_of, optional_of, maybe_of, each_of, each_text_of, each_long, weaken, both}
+use Rattle.mj_config_sound.proofs.Schedules.{schedule_param_of}
 use Rattle.mj_config_sound.proofs.SoundAddresses.{address_is_short}
 use Rattle.mj_config_sound.proofs.Sorted.{first_sorted, required_sorted}
 
@@ -183,10 +184,10 @@ module _ (names taken : List (List ℕ)) where
   remote_delivery_of : (step : Members) → Holds (IsNew names taken) (remote_delivery names taken step)
   remote_delivery_of step =
       bind (outgoing_param_of taken step) (λ outgoing h.
-      skip (schedule_param step) (λ delays.
+      bind (schedule_param_of step) (λ delays few.
       skip (maybe domain_value (get_member (codes "gateway") step)) (λ gateway.
       bind (maybe_of (is_target names) (target_value names) (get_member (codes "bounceProcessor") step) (target_value_of names)) (λ bounces k.
-      ok (RemoteDelivery outgoing delays gateway bounces) (record { formed = rw (h.0, k); new = h.1 })))))
+      ok (RemoteDelivery outgoing delays gateway bounces) (record { formed = rw (h.0, few, k); new = h.1 })))))
 
   fail_of : (step : Members) → Holds (IsNew names taken) (fail step)
   fail_of step =

@@ -43,8 +43,6 @@ pub enum PlanKind {
     TooDeep,
     /// There are more of something than may be.
     TooMany,
-    /// A step has a matcher or a mailet that this build doesn't carry out yet. `read_plan` never answers it.
-    NotBuilt,
 }
 
 /// Why there is no plan: the kind of the first fault, with the number of its processor and of its step, from 1, or 0

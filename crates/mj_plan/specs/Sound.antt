@@ -1,5 +1,6 @@
 -- When a plan keeps every form, limit and reference of the configuration. What is an address, a domain or a schedule
--- keeps its form by its type; here it is said only that the addresses which stand in mails and notices are short.
+-- keeps its form by its type; here it is said only that the addresses which stand in mails and notices are short, and how
+-- long a remote delivery may wait.
 use Rattle.std.specs.Prelude.{◌≡◌, ℕ, suc, max, ◌*◌, ◌^◌, ◌<◌, ◌≤◌, nat_le, nat_lt, ◌==◌, Bool, true, not, ◌&&◌, ◌||◌, List, [], ◌∷◌, length, map, codes, Option, Some, None}
 use Rattle.std.specs.Ordering.{nat_cmp, is_lt}
 use Rattle.std.specs.Cmp.Lexicographic.{slice_cmp}
@@ -8,6 +9,7 @@ use Rattle.std.specs.Option.{option_map_or}
 use Rattle.std.specs.Str.{bytes_eq}
 use Rattle.mj_address.specs.Grammar.{is_dot_atom}
 use Rattle.mj_address.specs.Short.{is_short, is_short_domain}
+use Rattle.mj_delays.specs.Limits as delay
 use Rattle.mj_head.specs.Head.{is_field_name}
 use Rattle.mj_plan.specs.declared.condition.Condition.{Condition}
 use Rattle.mj_plan.specs.declared.condition.Condition.TheVariants as condition
@@ -136,6 +138,10 @@ is_attribute named = is_attribute_name named.name && is_attribute_value named.va
 abbrev pub is_header_mapping : Named → Bool
 is_header_mapping named = is_attribute_name named.name && is_field_name named.value
 
+-- at most 100 delays, each of at most seven days
+abbrev pub is_schedule : List ℕ → Bool
+is_schedule schedule = nat_le (length schedule) 100 && list_all delay.is_short schedule
+
 abbrev pub is_mailet : List (List ℕ) → MailetKind → Bool
 is_mailet names (mailet.ToProcessor processor) = is_target names processor
 is_mailet names mailet.Null = true
@@ -154,7 +160,8 @@ is_mailet names (mailet.Bounce message pass_through) = is_line message
 is_mailet names (mailet.NotifyPostmaster pass_through) = true
 is_mailet names mailet.LocalDelivery = true
 is_mailet names (mailet.ToRepository path pass_through) = is_repository path
-is_mailet names (mailet.RemoteDelivery outgoing schedule gateway bounce_processor) = is_processor_name outgoing && option_map_or (is_target names) bounce_processor true
+is_mailet names (mailet.RemoteDelivery outgoing schedule gateway bounce_processor) =
+    is_processor_name outgoing && (is_schedule schedule && option_map_or (is_target names) bounce_processor true)
 is_mailet names (mailet.Fail text) = is_line text
 
 -- ---- Steps and processors

@@ -16,7 +16,7 @@ pub use forms::{
     is_repository,
 };
 pub use listed::{Copied, Listed};
-pub use mailet::{MailetKind, Named};
+pub use mailet::{Delivery, MailetKind, Named};
 pub use mappings::Mappings;
 pub use matcher::MatchExpr;
 pub use plan::{MailetRoute, Mapping, MatchRoute, Plan, Processor, Step};

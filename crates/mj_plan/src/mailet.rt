@@ -1,5 +1,5 @@
 ghost use Rattle.std.specs.Prelude.{◌≡◌};
-ghost use Rattle.std.specs.Option.{option_copied};
+ghost use Rattle.std.specs.Option.{option_copied, option_map};
 ghost use Rattle.mj_plan.specs.Lookups.{delivery_of};
 
 use mj_address::{Address, Domain};
@@ -89,17 +89,30 @@ pub enum MailetKind {
     },
 }
 
+/// A remote delivery of a plan.
+#[derive(Clone, Copy, Debug)]
+pub struct Delivery<'a> {
+    /// How long it waits between its attempts.
+    pub schedule: &'a Schedule,
+    /// The processor to which it sends what it couldn't deliver, if it names one.
+    pub bounce_processor: Option<&'a Bytes>,
+}
+
 impl MailetKind {
-    /// The schedule, if this is the remote delivery of that name.
-    pub(crate) fn schedule(&self, delivery: &[u8]) -> Option<&Schedule>
-        ensures { option_copied result ≡ delivery_of delivery.now self.now }
+    /// The remote delivery that this is, if it is the one of that name.
+    pub(crate) fn delivery(&self, name: &[u8]) -> Option<Delivery<'_>>
+        ensures { option_map (λ delivery. (delivery.schedule.now, option_copied delivery.bounce_processor)) result ≡ delivery_of name.now self.now }
     {
         match self {
             MailetKind::RemoteDelivery {
                 outgoing,
                 schedule,
+                bounce_processor,
                 ..
-            } if outgoing.as_slice() == delivery => Some(schedule),
+            } if outgoing.as_slice() == name => Some(Delivery {
+                schedule,
+                bounce_processor: bounce_processor.as_ref(),
+            }),
             _ => None,
         }
     }

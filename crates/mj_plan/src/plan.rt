@@ -1,8 +1,8 @@
 ghost use Rattle.std.specs.Prelude.{◌≡◌};
-ghost use Rattle.std.specs.Option.{option_copied};
-ghost use Rattle.mj_plan.specs.Lookups.{processor_named, schedule_in, schedule_named};
+ghost use Rattle.std.specs.Option.{option_copied, option_map};
+ghost use Rattle.mj_plan.specs.Lookups.{delivery_in, delivery_named, processor_named, schedule_named};
 
-use crate::{Listed, MailetKind, Mappings, MatchExpr, User};
+use crate::{Delivery, Listed, MailetKind, Mappings, MatchExpr, User};
 use mj_address::{Address, Domain};
 use mj_delays::Schedule;
 use mj_fields::{Bytes, Items};
@@ -81,29 +81,36 @@ impl Plan {
             .find(|processor| processor.name.as_slice() == name)
     }
 
-    /// The schedule of the first remote delivery of this name; `None` exactly where none has it.
-    pub fn schedule(&self, delivery: &[u8]) -> Option<&Schedule>
-        ensures { option_copied result ≡ schedule_named delivery.now self.now.processors }
+    /// The first remote delivery of this name; `None` exactly where none has it. Names are compared byte for byte.
+    pub fn delivery(&self, name: &[u8]) -> Option<Delivery<'_>>
+        ensures { option_map (λ delivery. (delivery.schedule.now, option_copied delivery.bounce_processor)) result ≡ delivery_named name.now self.now.processors }
     {
         for processor in self.processors.as_slice() {
-            let schedule = processor.schedule(delivery);
-            if schedule.is_some() {
-                return schedule;
+            let delivery = processor.delivery(name);
+            if delivery.is_some() {
+                return delivery;
             }
         }
         None
     }
+
+    /// The schedule of the first remote delivery of this name; `None` exactly where none has it.
+    pub fn schedule(&self, delivery: &[u8]) -> Option<&Schedule>
+        ensures { option_copied result ≡ schedule_named delivery.now self.now.processors }
+    {
+        Some(self.delivery(delivery)?.schedule)
+    }
 }
 
 impl Processor {
-    /// The schedule of the first remote delivery of this name in the processor.
-    fn schedule(&self, delivery: &[u8]) -> Option<&Schedule>
-        ensures { option_copied result ≡ schedule_in delivery.now self.now.steps }
+    /// The first remote delivery of this name in the processor.
+    fn delivery(&self, name: &[u8]) -> Option<Delivery<'_>>
+        ensures { option_map (λ delivery. (delivery.schedule.now, option_copied delivery.bounce_processor)) result ≡ delivery_in name.now self.now.steps }
     {
         for step in self.steps.as_slice() {
-            let schedule = step.mailet.schedule(delivery);
-            if schedule.is_some() {
-                return schedule;
+            let delivery = step.mailet.delivery(name);
+            if delivery.is_some() {
+                return delivery;
             }
         }
         None
