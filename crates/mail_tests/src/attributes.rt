@@ -1,11 +1,11 @@
-use mj_fields::{Bytes, Memory};
+use crate::rows::assert_so;
+use mj_fields::Memory;
 use mj_mail::{Attributes, MAX_ATTRIBUTES};
 use std::alloc::Global;
 use std::process::Abort;
 use std::test::Fail;
 
 /// A change of attributes.
-#[derive(Clone, Copy)]
 enum Change {
     Set(&'static str, &'static str),
     Remove(&'static str),
@@ -27,68 +27,65 @@ fn make(alloc: Global, attributes: &mut Attributes, change: &Change) -> Result<b
     }
 }
 
-/// All attributes in order, as `name=value` with a semicolon behind each.
-fn listed(alloc: Global, attributes: &Attributes) -> Result<Bytes, Memory> {
-    let mut text = Bytes::new(alloc);
-    for k in 0..attributes.len() {
-        if let Some((name, value)) = attributes.at(k) {
-            text.extend(name)?;
-            text.push(b'=')?;
-            text.extend(value)?;
-            text.push(b';')?;
+/// Whether these are all attributes, in order: names and values.
+fn are(attributes: &Attributes, want: &[(&str, &str)]) -> bool {
+    for (k, (name, value)) in want.iter().enumerate() {
+        if attributes.at(k) != Some((name.as_bytes(), value.as_bytes())) {
+            return false;
         }
     }
-    Ok(text)
+    attributes.len() == want.len()
 }
 
-/// Whether the attributes and a copy of them are listed so.
-fn are_listed_as(alloc: Global, attributes: &Attributes, want: &str) -> Result<bool, Memory> {
-    let are_so = listed(alloc, attributes)?.as_slice() == want.as_bytes();
-    let copy = attributes.copy(alloc)?;
-    Ok(are_so && listed(alloc, &copy)?.as_slice() == want.as_bytes())
-}
-
-/// Fails where it isn't so. The case is what is looked at.
-fn assert_so(rt: &impl Abort, is_so: bool, case: &str) {
-    assert!(rt; is_so, "at {case:?}");
-}
-
-/// Changes one after the other, and what then stands.
-const CHANGES: [(Change, &str); 11] = [
-    (Change::Remove("b"), ""),
-    (Change::Set("b", "1"), "b=1;"),
-    (Change::Set("ba", "2"), "b=1;ba=2;"),
-    (Change::Set("a", ""), "a=;b=1;ba=2;"),
-    (Change::Set("B", "3"), "B=3;a=;b=1;ba=2;"),
-    (Change::Set("b", "longer"), "B=3;a=;b=longer;ba=2;"),
-    (Change::Remove("c"), "B=3;a=;b=longer;ba=2;"),
-    (Change::Remove("a"), "B=3;b=longer;ba=2;"),
-    (Change::Set("z", "4"), "B=3;b=longer;ba=2;z=4;"),
-    (Change::Clear, ""),
-    (Change::Set("a", "5"), "a=5;"),
+/// Changes one after the other, and the attributes that then stand.
+const CHANGES: [(Change, &[(&str, &str)]); 11] = [
+    (Change::Remove("b"), &[]),
+    (Change::Set("b", "1"), &[("b", "1")]),
+    (Change::Set("ba", "2"), &[("b", "1"), ("ba", "2")]),
+    (Change::Set("a", ""), &[("a", ""), ("b", "1"), ("ba", "2")]),
+    (
+        Change::Set("B", "3"),
+        &[("B", "3"), ("a", ""), ("b", "1"), ("ba", "2")],
+    ),
+    (
+        Change::Set("b", "longer"),
+        &[("B", "3"), ("a", ""), ("b", "longer"), ("ba", "2")],
+    ),
+    (
+        Change::Remove("c"),
+        &[("B", "3"), ("a", ""), ("b", "longer"), ("ba", "2")],
+    ),
+    (
+        Change::Remove("a"),
+        &[("B", "3"), ("b", "longer"), ("ba", "2")],
+    ),
+    (
+        Change::Set("z", "4"),
+        &[("B", "3"), ("b", "longer"), ("ba", "2"), ("z", "4")],
+    ),
+    (Change::Clear, &[]),
+    (Change::Set("a", "5"), &[("a", "5")]),
 ];
 
-/// Whether the change is taken, and leaves what is wanted.
+/// Whether the change is taken, and leaves these attributes, as a copy of them says too.
 fn changes(
     alloc: Global,
     attributes: &mut Attributes,
     change: &Change,
-    want: &str,
+    want: &[(&str, &str)],
 ) -> Result<bool, Memory> {
     let is_made = make(alloc, attributes, change)?;
-    Ok(is_made && are_listed_as(alloc, attributes, want)?)
+    let copy = attributes.copy(alloc)?;
+    Ok(is_made && are(attributes, want) && are(&copy, want))
 }
 
 #[test]
 fn changes_and_what_then_stands(rt: HostRuntime) -> Result<(), Fail> {
     let mut attributes = Attributes::new(rt.alloc());
     assert_so(&rt, attributes.is_empty(), "the first");
-    for (change, want) in &CHANGES {
-        assert_so(
-            &rt,
-            changes(rt.alloc(), &mut attributes, change, want)?,
-            want,
-        );
+    for (k, (change, want)) in CHANGES.iter().enumerate() {
+        let is_so = changes(rt.alloc(), &mut attributes, change, want)?;
+        assert!(rt; is_so, "at {k}");
     }
     Ok(())
 }
@@ -107,37 +104,34 @@ fn fill(alloc: Global, attributes: &mut Attributes) -> Result<bool, Memory> {
     Ok(all)
 }
 
-fn check_full(rt: &(impl Abort + AllocGlobal), attributes: &mut Attributes) -> Result<(), Memory> {
-    assert_so(rt, attributes.len() == MAX_ATTRIBUTES, "the most");
-    assert_so(rt, !attributes.set(rt.alloc(), b"100", b"")?, "one more");
+/// Whether there is room for no other name, and the value of each of the hundred may be changed.
+fn is_full(alloc: Global, attributes: &mut Attributes) -> Result<bool, Memory> {
+    let is_one_more = attributes.set(alloc, b"100", b"")?;
+    let is_changed = attributes.set(alloc, b"07", b"new")?;
+    Ok(!is_one_more && is_changed && attributes.len() == MAX_ATTRIBUTES)
+}
+
+fn check_full(rt: &impl Abort, attributes: &Attributes) {
     assert_so(rt, attributes.len() == 100, "a hundred");
     assert_so(rt, attributes.get(b"100").is_none(), "none of them");
     assert_so(rt, attributes.at(100).is_none(), "none behind them");
-    assert_so(
-        rt,
-        attributes.set(rt.alloc(), b"07", b"new")?,
-        "one of them",
-    );
     assert_so(rt, attributes.get(b"07") == Some(b"new".as_slice()), "07");
     assert_so(rt, attributes.get(b"08") == Some([91].as_slice()), "08");
-    Ok(())
 }
 
-fn check_removed(
-    rt: &(impl Abort + AllocGlobal),
-    attributes: &mut Attributes,
-) -> Result<(), Memory> {
+/// Whether there is room for another name where one was removed.
+fn is_freed(alloc: Global, attributes: &mut Attributes) -> Result<bool, Memory> {
     attributes.remove(b"00");
-    assert_so(rt, attributes.set(rt.alloc(), b"100", b"")?, "one for one");
-    assert_so(rt, attributes.get(b"100") == Some(b"".as_slice()), "100");
-    Ok(())
+    let is_taken = attributes.set(alloc, b"100", b"")?;
+    Ok(is_taken && attributes.get(b"100") == Some(b"".as_slice()))
 }
 
 #[test]
 fn a_hundred_and_no_more(rt: HostRuntime) -> Result<(), Fail> {
     let mut attributes = Attributes::new(rt.alloc());
     assert_so(&rt, fill(rt.alloc(), &mut attributes)?, "a hundred");
-    check_full(&rt, &mut attributes)?;
-    check_removed(&rt, &mut attributes)?;
+    assert_so(&rt, is_full(rt.alloc(), &mut attributes)?, "no more");
+    check_full(&rt, &attributes);
+    assert_so(&rt, is_freed(rt.alloc(), &mut attributes)?, "one for one");
     Ok(())
 }

@@ -1,19 +1,102 @@
+//! How many bytes the entries of steps have, and their parts.
+use crate::names::grandchild;
+use crate::rows::{assert_so, first_mail, new_mail};
 use mj_address::{Address, Domain, Recipients};
 use mj_entry_len::{done_fits, done_len, fact_len, mail_len, name_len, reply_len};
-use mj_fields::{Bytes, Items};
+use mj_fields::{Bytes, Items, Memory};
 use mj_head::Head;
 use mj_mail::{Body, Fact, Mail, Name, NewMail, Outcome, Reply, Stage, Why};
 use std::alloc::Global;
-use std::process::Abort;
 use std::test::Fail;
 
-/// Fails where it isn't so. The case is what is looked at.
-fn assert_so(rt: &impl Abort, is_so: bool, case: &str) {
-    assert!(rt; is_so, "at {case:?}");
+fn bytes(alloc: Global, text: &str) -> Result<Bytes, Memory> {
+    Ok(Bytes::from_slice(alloc, text.as_bytes())?)
 }
 
-fn bytes(alloc: Global, text: &str) -> Result<Bytes, Fail> {
-    Ok(Bytes::from_slice(alloc, text.as_bytes())?)
+/// A mail file, and the text of a body that was made in place of the one that came in.
+struct Message {
+    file: &'static [u8],
+    made: Option<&'static str>,
+    len: u64,
+}
+
+/// Messages to `a@b.c`, and how many bytes a deposit of each in `box` has: 1 for the kind, 7 for the repository and 16 for the
+/// recipients, a null sender 1 and another 13, a head 4 and 8 more than the name and the raw body for each field, and a
+/// body 13, or five more than what was made.
+const MESSAGES: [Message; 6] = [
+    Message {
+        file: b"MAIL FROM:<>\r\nRCPT TO:<a@b.c>\r\nDATA\r\n\r\n",
+        made: None,
+        len: 24 + 1 + 4 + 13,
+    },
+    Message {
+        file: b"MAIL FROM:<a@b.c>\r\nRCPT TO:<a@b.c>\r\nDATA\r\n\r\nhello",
+        made: None,
+        len: 24 + 13 + 4 + 13,
+    },
+    Message {
+        file: b"MAIL FROM:<>\r\nRCPT TO:<a@b.c>\r\nDATA\r\nTo: x\r\n\r\n",
+        made: None,
+        len: 24 + 1 + (4 + 12) + 13,
+    },
+    Message {
+        file: b"MAIL FROM:<>\r\nRCPT TO:<a@b.c>\r\nDATA\r\nTo: x\r\nSubject: hi\r\n you\r\nX:\r\n\r\n",
+        made: None,
+        len: 24 + 1 + (4 + 12 + 24 + 9) + 13,
+    },
+    Message {
+        file: b"MAIL FROM:<>\r\nRCPT TO:<a@b.c>\r\nDATA\r\n\r\n",
+        made: Some(""),
+        len: 24 + 1 + 4 + 5,
+    },
+    Message {
+        file: b"MAIL FROM:<a@b.c>\r\nRCPT TO:<a@b.c>\r\nDATA\r\n\r\n",
+        made: Some("hello"),
+        len: 24 + 13 + 4 + 10,
+    },
+];
+
+/// The body that was made, or one that came in.
+fn body(alloc: Global, made: Option<&str>) -> Result<Body, Memory> {
+    match made {
+        Some(text) => Ok(Body::Made(bytes(alloc, text)?)),
+        None => Ok(Body::Original {
+            number: 7,
+            length: 1000,
+        }),
+    }
+}
+
+/// The fact that the mail was put into the repository `box` with this body.
+fn deposit(alloc: Global, mail: &NewMail, body: &Body) -> Result<Fact, Memory> {
+    let repository = bytes(alloc, "box")?;
+    let envelope = (&mail.sender, &mail.recipients);
+    Fact::deposit(alloc, &repository, envelope, (&mail.head, body))
+}
+
+fn deposit_len(alloc: Global, mail: &NewMail, body: &Body) -> Result<u64, Memory> {
+    let fact = deposit(alloc, mail, body)?;
+    Ok(fact_len(&fact))
+}
+
+fn message_len(alloc: Global, mail: &NewMail, made: Option<&str>) -> Result<u64, Memory> {
+    let body = body(alloc, made)?;
+    deposit_len(alloc, mail, &body)
+}
+
+fn is_counted(alloc: Global, message: &Message) -> Result<bool, Fail> {
+    let mail = new_mail(alloc, message.file)?;
+    let len = message_len(alloc, &mail, message.made)?;
+    Ok(len == message.len)
+}
+
+#[test]
+fn deposits(rt: HostRuntime) -> Result<(), Fail> {
+    for (k, message) in MESSAGES.iter().enumerate() {
+        let is_so = is_counted(rt.alloc(), message)?;
+        assert!(rt; is_so, "at {k}");
+    }
+    Ok(())
 }
 
 /// 12 bytes: two strings of one byte and of three, each behind four bytes.
@@ -27,142 +110,17 @@ fn host(alloc: Global) -> Result<Domain, Fail> {
 }
 
 /// 8 bytes: two for the code, and two letters behind four bytes.
-fn reply(alloc: Global) -> Result<Reply, Fail> {
-    Ok(Reply {
-        code: 250,
-        text: bytes(alloc, "ok")?,
-    })
+fn reply(alloc: Global) -> Result<Reply, Memory> {
+    let text = bytes(alloc, "ok")?;
+    Ok(Reply { code: 250, text })
 }
 
 /// 16 bytes: four, and one address.
 fn recipients(alloc: Global) -> Result<Recipients, Fail> {
-    let mut recipients = Recipients::new(alloc);
-    recipients.add(address(alloc)?)?;
-    Ok(recipients)
-}
-
-/// A head with these fields, each a name and a raw body.
-fn head(alloc: Global, fields: &[(&str, &str)]) -> Result<Head, Fail> {
-    let mut head = Head::new(alloc);
-    for (name, body) in fields {
-        head.add_raw(name.as_bytes(), body.as_bytes())?;
-    }
-    Ok(head)
-}
-
-/// A sender, the fields of a head, and a body: one that came in, or the text of one that was made.
-#[derive(Clone, Copy)]
-struct Message {
-    from_somebody: bool,
-    fields: &'static [(&'static str, &'static str)],
-    made: Option<&'static str>,
-}
-
-fn body(alloc: Global, made: Option<&str>) -> Result<Body, Fail> {
-    match made {
-        Some(text) => Ok(Body::Made(bytes(alloc, text)?)),
-        None => Ok(Body::Original {
-            number: 7,
-            length: 1000,
-        }),
-    }
-}
-
-fn sender(alloc: Global, from_somebody: bool) -> Result<Option<Address>, Fail> {
-    if from_somebody {
-        Ok(Some(address(alloc)?))
-    } else {
-        Ok(None)
-    }
-}
-
-/// The first mail of the number 7, which has one recipient and nothing else. It waits for the processor `root`.
-fn first_mail(alloc: Global) -> Result<Mail, Fail> {
-    let new = NewMail {
-        sender: None,
-        recipients: recipients(alloc)?,
-        head: Head::new(alloc),
-        body: Bytes::new(alloc),
-    };
-    Ok(new.first(alloc, 0, 7)?)
-}
-
-/// Its length is 1 for the kind, 7 for the repository, 16 for the recipients, and what the message has.
-fn deposit(alloc: Global, message: &Message) -> Result<Fact, Fail> {
-    let mut mail = first_mail(alloc)?;
-    mail.sender = sender(alloc, message.from_somebody)?;
-    mail.head = head(alloc, message.fields)?;
-    mail.body = body(alloc, message.made)?;
-    let repository = bytes(alloc, "box")?;
-    let envelope = (&mail.sender, &mail.recipients);
-    let message = (&mail.head, &mail.body);
-    Ok(Fact::deposit(alloc, &repository, envelope, message)?)
-}
-
-/// Messages, and how many bytes their sender, head and body have: a null sender 1 and another 13, a head 4 and 8 more than
-/// the name and the raw body for each field, and a body 13, or five more than what was made.
-const MESSAGES: [(Message, u64); 6] = [
-    (
-        Message {
-            from_somebody: false,
-            fields: &[],
-            made: None,
-        },
-        1 + 4 + 13,
-    ),
-    (
-        Message {
-            from_somebody: true,
-            fields: &[],
-            made: None,
-        },
-        13 + 4 + 13,
-    ),
-    (
-        Message {
-            from_somebody: false,
-            fields: &[("To", " x")],
-            made: None,
-        },
-        1 + (4 + 12) + 13,
-    ),
-    (
-        Message {
-            from_somebody: false,
-            fields: &[("To", " x"), ("Subject", " hi\r\n you"), ("X", "")],
-            made: None,
-        },
-        1 + (4 + 12 + 24 + 9) + 13,
-    ),
-    (
-        Message {
-            from_somebody: false,
-            fields: &[],
-            made: Some(""),
-        },
-        1 + 4 + 5,
-    ),
-    (
-        Message {
-            from_somebody: true,
-            fields: &[],
-            made: Some("hello"),
-        },
-        13 + 4 + 10,
-    ),
-];
-
-#[test]
-fn deposits(rt: HostRuntime) -> Result<(), Fail> {
-    for (k, (message, want)) in MESSAGES.iter().enumerate() {
-        let fact = deposit(rt.alloc(), message)?;
-        assert!(rt; fact_len(&fact) == 24 + *want, "at {k}");
-    }
-    Ok(())
+    Ok(Recipients::one(alloc, address(alloc)?)?)
 }
 
 /// The other kinds of facts.
-#[derive(Clone, Copy)]
 enum Kind {
     Sent,
     Retry,
@@ -171,25 +129,6 @@ enum Kind {
     FellOff,
     Looped,
     Overrun,
-}
-
-fn told(alloc: Global, kind: Kind) -> Result<Fact, Fail> {
-    match kind {
-        Kind::Sent => sent(alloc),
-        Kind::Retry => retry(alloc),
-        Kind::Bounce => Ok(Fact::Bounce {
-            recipients: recipients(alloc)?,
-        }),
-        Kind::Dropped => Ok(Fact::Dropped {
-            why: Why::Discarded,
-            recipients: recipients(alloc)?,
-        }),
-        Kind::FellOff => fell_off(alloc),
-        Kind::Looped => Ok(Fact::Looped {
-            recipients: recipients(alloc)?,
-        }),
-        Kind::Overrun => Ok(Fact::Overrun),
-    }
 }
 
 fn sent(alloc: Global) -> Result<Fact, Fail> {
@@ -203,9 +142,8 @@ fn sent(alloc: Global) -> Result<Fact, Fail> {
     })
 }
 
-fn retry(alloc: Global) -> Result<Fact, Fail> {
+fn retry(alloc: Global, recipients: Recipients) -> Result<Fact, Fail> {
     let host = host(alloc)?;
-    let recipients = recipients(alloc)?;
     Ok(Fact::Retry {
         host,
         recipients,
@@ -214,13 +152,28 @@ fn retry(alloc: Global) -> Result<Fact, Fail> {
     })
 }
 
-fn fell_off(alloc: Global) -> Result<Fact, Fail> {
+fn fell_off(alloc: Global, recipients: Recipients) -> Result<Fact, Fail> {
     let processor = bytes(alloc, "root")?;
-    let recipients = recipients(alloc)?;
     Ok(Fact::FellOff {
         processor,
         recipients,
     })
+}
+
+fn told(alloc: Global, kind: &Kind) -> Result<Fact, Fail> {
+    let recipients = recipients(alloc)?;
+    match kind {
+        Kind::Sent => sent(alloc),
+        Kind::Retry => retry(alloc, recipients),
+        Kind::Bounce => Ok(Fact::Bounce { recipients }),
+        Kind::Dropped => Ok(Fact::Dropped {
+            why: Why::Discarded,
+            recipients,
+        }),
+        Kind::FellOff => fell_off(alloc, recipients),
+        Kind::Looped => Ok(Fact::Looped { recipients }),
+        Kind::Overrun => Ok(Fact::Overrun),
+    }
 }
 
 /// Kinds, and how many bytes a fact of each has here: one for the kind, and its parts.
@@ -234,34 +187,35 @@ const KINDS: [(Kind, u64, &str); 7] = [
     (Kind::Overrun, 1, "overrun"),
 ];
 
+fn told_len(alloc: Global, kind: &Kind) -> Result<u64, Fail> {
+    let fact = told(alloc, kind)?;
+    Ok(fact_len(&fact))
+}
+
 #[test]
 fn other_facts(rt: HostRuntime) -> Result<(), Fail> {
-    for (kind, want, case) in KINDS {
-        let fact = told(rt.alloc(), kind)?;
-        assert_so(&rt, fact_len(&fact) == want, case);
+    for (kind, want, case) in &KINDS {
+        let len = told_len(rt.alloc(), kind)?;
+        assert_so(&rt, len == *want, case);
     }
     Ok(())
 }
 
-/// 20 bytes: eight for the number, four, and four for each member of the path.
-fn grandchild(alloc: Global) -> Result<Name, Fail> {
-    Ok(Name::first(alloc, 7).child(2)?.child(10)?)
-}
+const FILE: &[u8] = b"MAIL FROM:<>\r\nRCPT TO:<a@b.c>\r\nDATA\r\n\r\n";
 
-/// 96 bytes: 20 for the name, 1 and 16 for the envelope, 15 for the attribute, 9 for the stage, 6 for the error, 4 and 13 for
-/// the message, and 12 for the hops and the moment.
-fn waiting(alloc: Global) -> Result<Mail, Fail> {
-    let mut mail = first_mail(alloc)?;
+/// Gives the mail a name of 20 bytes, an attribute of 11 and an error of 2.
+fn mark(alloc: Global, mail: &mut Mail) -> Result<(), Memory> {
     mail.name = grandchild(alloc)?;
     mail.attributes.set(alloc, b"a", b"bc")?;
-    mail.error.extend(b"no")?;
-    Ok(mail)
+    mail.error.extend(b"no")
 }
 
-/// Its stage has 1, 7, 7 and 4 bytes in place of 9.
-fn leaving(alloc: Global) -> Result<Mail, Fail> {
-    let mut mail = waiting(alloc)?;
-    mail.stage = remote(alloc)?;
+/// 96 bytes: 20 for the name, which has eight for the number, four, and four for each member of the path, 1 and 16 for the
+/// envelope, 15 for the attribute, 9 for the stage, 6 for the error, 4 and 13 for the message, and 12 for the hops and the
+/// moment.
+fn waiting(alloc: Global) -> Result<Mail, Fail> {
+    let mut mail = first_mail(alloc, FILE)?;
+    mark(alloc, &mut mail)?;
     Ok(mail)
 }
 
@@ -275,14 +229,25 @@ fn remote(alloc: Global) -> Result<Stage, Fail> {
     })
 }
 
+/// Its stage has 1, 7, 7 and 4 bytes in place of 9.
+fn leaving(alloc: Global) -> Result<Mail, Fail> {
+    let stage = remote(alloc)?;
+    let mut mail = waiting(alloc)?;
+    mail.stage = stage;
+    Ok(mail)
+}
+
 #[test]
 fn names_replies_and_mails(rt: HostRuntime) -> Result<(), Fail> {
-    let alloc = rt.alloc();
-    assert_so(&rt, name_len(&Name::first(alloc, 7)) == 12, "a first name");
-    assert_so(&rt, name_len(&grandchild(alloc)?) == 20, "a grandchild");
-    assert_so(&rt, reply_len(&reply(alloc)?) == 8, "a reply");
-    assert_so(&rt, mail_len(&waiting(alloc)?) == 96, "one that waits");
-    assert_so(&rt, mail_len(&leaving(alloc)?) == 106, "one that leaves");
+    let name = Name::first(rt.alloc(), 7);
+    assert_so(&rt, name_len(&name) == 12, "a first name");
+    let reply = reply(rt.alloc())?;
+    assert_so(&rt, reply_len(&reply) == 8, "a reply");
+    let waiting = waiting(rt.alloc())?;
+    assert_so(&rt, name_len(&waiting.name) == 20, "a grandchild");
+    assert_so(&rt, mail_len(&waiting) == 96, "one that waits");
+    let leaving = leaving(rt.alloc())?;
+    assert_so(&rt, mail_len(&leaving) == 106, "one that leaves");
     Ok(())
 }
 
@@ -292,29 +257,29 @@ fn entry_len(alloc: Global, replies: &Items<Reply>, outcome: &Outcome) -> u64 {
     done_len(&Name::first(alloc, 7), replies, outcome)
 }
 
-#[test]
-fn an_entry_of_nothing(rt: HostRuntime) {
-    let none = Items::new(rt.alloc());
-    let nothing = Outcome::nothing(rt.alloc());
-    assert_eq!(rt; entry_len(rt.alloc(), &none, &nothing), 25);
+fn nothing_len(alloc: Global) -> u64 {
+    entry_len(alloc, &Items::new(alloc), &Outcome::nothing(alloc))
+}
+
+fn bounce_len(alloc: Global) -> Result<u64, Fail> {
+    let bounce = told(alloc, &Kind::Bounce)?;
+    let outcome = Outcome::one_fact(alloc, bounce)?;
+    let mut replies = Items::new(alloc);
+    replies.push(reply(alloc)?)?;
+    Ok(entry_len(alloc, &replies, &outcome))
+}
+
+fn child_len(alloc: Global) -> Result<u64, Fail> {
+    let outcome = Outcome::one_child(alloc, waiting(alloc)?)?;
+    Ok(entry_len(alloc, &Items::new(alloc), &outcome))
 }
 
 #[test]
-fn an_entry_of_a_reply_and_a_fact(rt: HostRuntime) -> Result<(), Fail> {
-    let mut replies = Items::new(rt.alloc());
-    replies.push(reply(rt.alloc())?)?;
-    let bounce = told(rt.alloc(), Kind::Bounce)?;
-    let outcome = Outcome::one_fact(rt.alloc(), bounce)?;
-    assert_eq!(rt; entry_len(rt.alloc(), &replies, &outcome), 25 + 8 + 17);
-    Ok(())
-}
-
-#[test]
-fn an_entry_of_a_child(rt: HostRuntime) -> Result<(), Fail> {
-    let none = Items::new(rt.alloc());
-    let child = waiting(rt.alloc())?;
-    let outcome = Outcome::one_child(rt.alloc(), child)?;
-    assert_eq!(rt; entry_len(rt.alloc(), &none, &outcome), 25 + 96);
+fn entries(rt: HostRuntime) -> Result<(), Fail> {
+    let alloc = rt.alloc();
+    assert_so(&rt, nothing_len(alloc) == 25, "nothing");
+    assert_so(&rt, bounce_len(alloc)? == 25 + 8 + 17, "a reply and a fact");
+    assert_so(&rt, child_len(alloc)? == 25 + 96, "a child");
     Ok(())
 }
 
@@ -335,13 +300,16 @@ fn deposit_of(alloc: Global, count: usize) -> Result<Outcome, Fail> {
 /// Bytes of bodies, and whether the entry fits: it has 25 and 19 more, and the limit is 67,108,864.
 const BODIES: [(usize, bool); 3] = [(0, true), (67_108_820, true), (67_108_821, false)];
 
+fn fits(alloc: Global, count: usize) -> Result<bool, Fail> {
+    let outcome = deposit_of(alloc, count)?;
+    Ok(done_fits(&Name::first(alloc, 7), &Items::new(alloc), &outcome))
+}
+
 #[test]
 fn the_limit_and_one_byte_more(rt: HostRuntime) -> Result<(), Fail> {
-    let name = Name::first(rt.alloc(), 7);
-    let replies = Items::new(rt.alloc());
-    for (count, fits) in BODIES {
-        let outcome = deposit_of(rt.alloc(), count)?;
-        assert!(rt; done_fits(&name, &replies, &outcome) == fits, "at {count}");
+    for (count, want) in BODIES {
+        let fits = fits(rt.alloc(), count)?;
+        assert!(rt; fits == want, "at {count}");
     }
     Ok(())
 }

@@ -7,3 +7,5 @@ mod attributes;
 mod entries;
 #[cfg(test)]
 mod names;
+#[cfg(test)]
+mod rows;

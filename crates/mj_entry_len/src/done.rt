@@ -5,6 +5,7 @@ ghost use Rattle.mj_entry_len.specs.Stored.{stored};
 
 use crate::fact::{facts_len, replies_len};
 use crate::mail::{mails_len, name_len};
+use crate::most::done_most;
 use mj_fields::Items;
 use mj_mail::{MAX_DONE, Name, Outcome, Reply};
 
@@ -19,9 +20,10 @@ pub fn done_len(name: &Name, replies: &Items<Reply>, outcome: &Outcome) -> u64
         .saturating_add(1)
 }
 
-/// Whether the entry of a step has at most [`MAX_DONE`] bytes.
+/// Whether the entry of a step has at most [`MAX_DONE`] bytes. The fields of a head are gone over only where the entry is
+/// so large that it may have more.
 pub fn done_fits(name: &Name, replies: &Items<Reply>, outcome: &Outcome) -> bool
     ensures { result ≡ done_fits name.now replies.now outcome.now }
 {
-    done_len(name, replies, outcome) <= MAX_DONE
+    done_most(name, replies, outcome) <= MAX_DONE || done_len(name, replies, outcome) <= MAX_DONE
 }

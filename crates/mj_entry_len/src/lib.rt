@@ -5,6 +5,7 @@
 mod done;
 mod fact;
 mod mail;
+mod most;
 mod parts;
 
 pub use done::{done_fits, done_len};

@@ -42,7 +42,7 @@ fn stage_len(stage: &Stage) -> u64
 }
 
 /// How many bytes a body has: 13 where it came in, and as many as it has and five where it was made.
-fn body_len(body: &Body) -> u64
+pub(crate) fn body_len(body: &Body) -> u64
     ensures { result ≡ stored (length (body_form body.now)) }
 {
     match body {
@@ -66,7 +66,7 @@ pub(crate) fn message_len(head: &Head, body: &Body) -> u64
 }
 
 /// How many bytes there are of what a mail has gathered on its way, and of where it stands.
-fn standing_len(attributes: &Attributes, stage: &Stage, error: &[u8]) -> u64
+pub(crate) fn standing_len(attributes: &Attributes, stage: &Stage, error: &[u8]) -> u64
     ensures { result ≡ stored (length (standing_form attributes.now stage.now error.now)) }
 {
     attributes_len(attributes)

@@ -7,7 +7,7 @@ use Rattle.mj_mail.specs.declared.mail.Mail.{Mail}
 use Rattle.mj_mail.specs.declared.reply.Reply.{Reply}
 use Rattle.mj_mail.specs.Meaning.{facts_of, gather, gather_within, tree}
 use Rattle.mj_mail.specs.Outcome.{nothing}
-use Rattle.mj_mail.specs.Rules.{step_by}
+use Rattle.mj_mail.specs.Rules.{Replying, replies_to, step_by}
 
 -- each child of a step has a smaller measure
 abbrev pub Falls : (Mail → ℕ) → (Mail → Outcome) → Type 0
@@ -43,15 +43,15 @@ tree_is measure step falls mail = gather_is (facts_of step) measure step falls m
 
 -- ---- By rules: a mail that isn't sound has no children
 
-module _ {R : Type 0} (measure : Mail → ℕ) (is_sound : R → Mail → Bool) (replies_to : R → Mail → List Reply) (outcome_of : R → Mail → List Reply → Outcome) (rules : R)
-    (falls : (mail : Mail) → is_sound rules mail ≡ true → AllByRecursion (λ child. measure child < measure mail) (outcome_of rules mail (replies_to rules mail)).children) where
+module _ {R : Type 0} (measure : Mail → ℕ) (is_sound : R → Mail → Bool) (reply_of : R → Replying) (outcome_of : R → Mail → List Reply → Outcome) (rules : R)
+    (falls : (mail : Mail) → is_sound rules mail ≡ true → AllByRecursion (λ child. measure child < measure mail) (outcome_of rules mail (replies_to (reply_of rules) mail)).children) where
   falls_by : (mail : Mail) (b : Bool) → is_sound rules mail ≡ b
-      → AllByRecursion (λ child. measure child < measure mail) (if b then outcome_of rules mail (replies_to rules mail) else nothing).children
+      → AllByRecursion (λ child. measure child < measure mail) (if b then outcome_of rules mail (replies_to (reply_of rules) mail) else nothing).children
   falls_by mail true sound = falls mail sound
   falls_by mail false sound = tt
 
-  pub rules_fall : Falls measure (step_by is_sound replies_to outcome_of rules)
+  pub rules_fall : Falls measure (step_by is_sound reply_of outcome_of rules)
   rules_fall mail = falls_by mail (is_sound rules mail) refl
 
-  pub step_is : (mail : Mail) → is_sound rules mail ≡ true → step_by is_sound replies_to outcome_of rules mail ≡ outcome_of rules mail (replies_to rules mail)
-  step_is mail sound = ap (λ b. if b then outcome_of rules mail (replies_to rules mail) else nothing) sound
+  pub step_is : (mail : Mail) → is_sound rules mail ≡ true → step_by is_sound reply_of outcome_of rules mail ≡ outcome_of rules mail (replies_to (reply_of rules) mail)
+  step_is mail sound = ap (λ b. if b then outcome_of rules mail (replies_to (reply_of rules) mail) else nothing) sound

@@ -1,5 +1,5 @@
 -- Outcomes of a step: facts about a mail, and the mails that it becomes.
-use Rattle.std.specs.Prelude.{ℕ, ◌+◌, List, [], ◌∷◌}
+use Rattle.std.specs.Prelude.{ℕ, ◌+◌, List, [], ◌∷◌, ◌++◌}
 use Rattle.mj_mail.specs.declared.fact.Fact.{Fact}
 use Rattle.mj_mail.specs.declared.fact.Outcome.{Outcome}
 use Rattle.mj_mail.specs.declared.mail.Mail.{Mail}
@@ -13,6 +13,10 @@ one_fact fact = record { facts = fact ∷ []; children = [] }
 
 abbrev pub one_child : Mail → Outcome
 one_child child = record { facts = []; children = child ∷ [] }
+
+-- facts follow facts, and children follow children
+abbrev pub both : Outcome → Outcome → Outcome
+both a b = record { facts = a.facts ++ b.facts; children = a.children ++ b.children }
 
 -- a child, with its number at the end of the name that it was given
 abbrev pub numbered_child : ℕ → Mail → Mail

@@ -1,5 +1,5 @@
 -- The rules by which mails are carried: what one step makes of a mail, and what each set of rules owes.
-use Rattle.std.specs.Prelude.{◌≡◌, ℕ, ◌+◌, nat_le, Bool, true, ◌&&◌, if◌then◌else◌, List, [], ◌∷◌, length, Option}
+use Rattle.std.specs.Prelude.{◌≡◌, ℕ, ◌+◌, nat_le, Bool, true, ◌&&◌, if◌then◌else◌, List, [], ◌∷◌, length, map, Option}
 use Rattle.std.specs.List.{list_all}
 use Rattle.std.specs.Option.{option_map_or}
 use Rattle.mj_address.specs.Grammar.{Mailbox}
@@ -13,11 +13,14 @@ use Rattle.mj_mail.specs.declared.mail.Body.{Body}
 use Rattle.mj_mail.specs.declared.mail.Body.TheVariants.{Original, Made}
 use Rattle.mj_mail.specs.declared.mail.Mail.{Mail}
 use Rattle.mj_mail.specs.declared.mail.NewMail.{NewMail}
+use Rattle.mj_mail.specs.declared.mail.Stage.{Stage}
+use Rattle.mj_mail.specs.declared.mail.Stage.TheVariants.{Process, Remote}
 use Rattle.mj_mail.specs.declared.name.Name.{Name}
 use Rattle.mj_mail.specs.declared.reply.Reply.{Reply}
 use Rattle.mj_mail.specs.Mail.{body_len}
 use Rattle.mj_mail.specs.Name.{child_name}
 use Rattle.mj_mail.specs.Outcome.{nothing}
+use Rattle.mj_mail.specs.Reply.{is_reply}
 
 -- one to 500 recipients
 abbrev pub has_recipients : List (List ℕ × List ℕ) → Bool
@@ -37,9 +40,22 @@ is_acceptable new =
     && (list_all is_short new.recipients
     && (is_short_sender new.sender && (nat_le (length (written new.head)) MAX_HEAD && is_small_body (length new.body))))
 
+-- what hosts answer: to each host, recipient and attempt its reply
+abbrev pub Replying : Type 0
+Replying = List ℕ → Mailbox → ℕ → Reply
+
+-- what is answered for these recipients where their mail stands: it isn't sent while it waits for a processor
+abbrev pub replies_at : Replying → List Mailbox → Stage → List Reply
+replies_at reply recipients (Process state) = []
+replies_at reply recipients (Remote delivery host attempt) = map (λ r. reply host r attempt) recipients
+
+-- what is answered for each recipient of a mail, in order
+abbrev pub replies_to : Replying → Mail → List Reply
+replies_to reply mail = replies_at reply mail.recipients mail.stage
+
 -- what one step makes of a mail, by rules with these meanings: nothing of one that isn't sound for them
-abbrev pub step_by : {R : Type 0} → (R → Mail → Bool) → (R → Mail → List Reply) → (R → Mail → List Reply → Outcome) → R → Mail → Outcome
-step_by is_sound replies_to outcome_of rules mail = if is_sound rules mail then outcome_of rules mail (replies_to rules mail) else nothing
+abbrev pub step_by : {R : Type 0} → (R → Mail → Bool) → (R → Replying) → (R → Mail → List Reply → Outcome) → R → Mail → Outcome
+step_by is_sound reply_of outcome_of rules mail = if is_sound rules mail then outcome_of rules mail (replies_to (reply_of rules) mail) else nothing
 
 -- ---- What is owed
 
@@ -57,11 +73,11 @@ abbrev pub HasOwnBody : Body → Fact → Type 0
 HasOwnBody own (Deposit repository sender recipients head body) = IsOwnBody own body
 HasOwnBody own other = Unit {0}
 
--- a fact names one to 500 recipients, and what is deposited keeps the limits
+-- a fact names one to 500 recipients, what is deposited keeps the limits, and a reply has its form
 abbrev pub is_storable : Fact → Bool
 is_storable (Deposit repository sender recipients head body) =
     has_recipients recipients && (nat_le (length (written head)) MAX_HEAD && is_small_body (body_len body))
-is_storable (Sent host recipient reply) = true
+is_storable (Sent host recipient reply) = is_reply reply
 is_storable (Retry host recipients attempt due) = has_recipients recipients
 is_storable (Bounce recipients) = has_recipients recipients
 is_storable (Dropped why recipients) = has_recipients recipients

@@ -22,5 +22,5 @@ pub use failure::Failure;
 pub use limits::{MAX_BODY, MAX_DONE, MAX_ERROR, MAX_HEAD, MAX_PAYLOAD, MAX_RECIPIENTS};
 pub use mail::{Body, Mail, NewMail, Stage, copy_envelope, copy_message, copy_sender};
 pub use name::{Name, name_text, put_number};
-pub use reply::Reply;
-pub use rules::Rules;
+pub use reply::{Class, MAX_REPLY_TEXT, Reply, ReplyFault};
+pub use rules::{Rules, replies_to};
