@@ -1,0 +1,4 @@
+mod Documents
+mod FirstPlaces
+mod InTurn
+pub mod Replies
