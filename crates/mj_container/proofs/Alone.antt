@@ -17,7 +17,7 @@ use Rattle.mj_mail.specs.declared.fact.Outcome.{Outcome}
 use Rattle.mj_mail.specs.declared.fact.Why.TheVariants.{Discarded}
 use Rattle.mj_mail.specs.declared.mail.Mail.{Mail}
 use Rattle.mj_mail.specs.Mail.{restrict}
-use Rattle.mj_mail.specs.Outcome.{nothing, numbered, numbered_child, numbered_from, one_child, one_fact}
+use Rattle.mj_mail.specs.Outcome.{both, nothing, numbered, numbered_child, numbered_from, one_child, one_fact}
 use Rattle.mj_plan.specs.declared.mailet.MailetKind.{MailetKind}
 use Rattle.mj_plan.specs.declared.mailet.MailetKind.TheVariants as mailet
 use Rattle.mj_plan.specs.declared.plan.MailetRoute.{MailetRoute}
@@ -32,7 +32,7 @@ use Rattle.mj_container.specs.declared.service.Unserved.{Unserved}
 use Rattle.mj_container.specs.Alone.{IsAsAlone, alone, child_of, count, cut, fact_of, is_plain, is_plain_mailet, is_plain_matcher, is_plain_step, named, nameless, numberless, only, walk}
 use Rattle.mj_container.specs.Changes.{field_of, fields_from, with_each, with_prefix, without_each, without_fields}
 use Rattle.mj_container.specs.Matching.{Mailbox}
-use Rattle.mj_container.specs.Running.{both, failed, failed_at, gone, part, parted, run, served, settled, split}
+use Rattle.mj_container.specs.Running.{failed, failed_at, gone, part, parted, run, served, settled, split}
 use Rattle.mj_container.specs.Serving.{fails, ghost_state, goes, leave, sent_to, serve, with_head}
 use Rattle.mj_container.specs.Verdict.{Verdict, Leaves, Takes, verdict}
 use Rattle.mj_container.proofs.Cut.{alone_in, kept, left_out, still_gone}

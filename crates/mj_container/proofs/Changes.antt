@@ -38,7 +38,8 @@ put_by Equal name value e es rest one all others =
     both_true (is_attribute (e.0, value)) (are_formed es) (both_true (is_attribute_name e.0) (is_attribute_value value) name_is value_is) parts.1
 put_by Greater name value e es rest one all others = both_true (is_attribute e) (are_formed rest) (and_parts (is_attribute e) (are_formed es) all).0 others
 
-put : (name value : List ℕ) (es : Pairs) → is_attribute (name, value) ≡ true → are_formed es ≡ true → are_formed (with_attribute name value es) ≡ true
+-- a list with one more of these forms keeps them
+pub put : (name value : List ℕ) (es : Pairs) → is_attribute (name, value) ≡ true → are_formed es ≡ true → are_formed (with_attribute name value es) ≡ true
 put name value [] one all = both_true (is_attribute (name, value)) true one refl
 put name value (e ∷ es) one all =
     put_by (byte_order name e.0) name value e es (insert_entry byte_order es name value) one all (put name value es one (and_parts (is_attribute e) (are_formed es) all).1)

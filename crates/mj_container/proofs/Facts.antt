@@ -10,14 +10,15 @@ use Rattle.mj_address.specs.Short.{is_short}
 use Rattle.mj_head.specs.Head.{written}
 use Rattle.mj_mail.specs.declared.limits.TheConstants.{MAX_ERROR, MAX_HEAD}
 use Rattle.mj_mail.specs.declared.mail.Mail.{Mail}
-use Rattle.mj_mail.specs.declared.mail.Stage.TheVariants.{Process}
+use Rattle.mj_mail.specs.declared.mail.Stage.TheVariants.{Process, Remote}
 use Rattle.mj_mail.specs.Mail.{body_len}
 use Rattle.mj_mail.specs.Rules.{has_recipients, is_short_sender, is_small_body}
 use Rattle.mj_plan.specs.declared.plan.Plan.{Plan}
 use Rattle.mj_plan.specs.declared.plan.Processor.{Processor}
 use Rattle.mj_plan.specs.Lookups.{processor_named}
 use Rattle.mj_plan.specs.Forms.{has_length}
-use Rattle.mj_container.specs.Sound.{are_attributes, keeps_limits, latest, may_stand, measure, names_processor}
+use Rattle.mj_plan.specs.Sound.{is_between}
+use Rattle.mj_container.specs.Sound.{are_attributes, keeps_limits, latest, latest_attempt, may_stand, measure, names_delivery, names_processor}
 
 pub both_true : (a b : Bool) → a ≡ true → b ≡ true → (a && b) ≡ true
 both_true a b p q = rw (p, q)
@@ -67,6 +68,57 @@ waits_sound plan state mail w =
     let last = both_true due path (of_le mail.due (latest mail.hops) w.due) (of_le (length mail.name.path + measure mail) 102_203 w.path) in
     let bounds = both_true hops (due && path) (of_le mail.hops 1_001 w.hops) last in
     both_true (keeps_limits mail) (may_stand plan (Process state) mail) w.limits (both_true (names_processor plan state) (hops && (due && path)) w.named bounds)
+
+-- a mail that waits for an attempt of this number by a remote delivery of this name, and is sound
+pub record Tried (plan : Plan) (delivery : List ℕ) (number : ℕ) (mail : Mail) : Type 0 where
+  pub limits : keeps_limits mail ≡ true
+  pub named : names_delivery plan delivery ≡ true
+  pub some_hops : 1 ≤ mail.hops
+  pub few_hops : mail.hops ≤ 1_000
+  pub first : 1 ≤ number
+  pub last : number ≤ 101
+  pub due : mail.due ≤ latest_attempt mail.hops number
+  pub path : length mail.name.path + measure mail ≤ 102_203
+
+within : (least most n : ℕ) → is_between least most n ≡ true → (least ≤ n) × (n ≤ most)
+within least most n h = let parts = and_parts (nat_le least n) (nat_le n most) h in (le_of least n parts.0, le_of n most parts.1)
+
+pub tried : (plan : Plan) (delivery host : List ℕ) (number : ℕ) (mail : Mail) → (keeps_limits mail && may_stand plan (Remote delivery host number) mail) ≡ true
+    → Tried plan delivery number mail
+tried plan delivery host number mail h =
+    let path = nat_le (length mail.name.path + measure mail) 102_203 in
+    let due = nat_le mail.due (latest_attempt mail.hops number) in
+    let bounds = is_between 1 1_000 mail.hops && is_between 1 101 number in
+    let all = and_parts (keeps_limits mail) (may_stand plan (Remote delivery host number) mail) h in
+    let stands = and_parts (names_delivery plan delivery) (bounds && (due && path)) all.1 in
+    let inner = and_parts bounds (due && path) stands.1 in
+    let numbers = and_parts (is_between 1 1_000 mail.hops) (is_between 1 101 number) inner.0 in
+    let last = and_parts due path inner.1 in
+    let hops = within 1 1_000 mail.hops numbers.0 in
+    let attempts = within 1 101 number numbers.1 in
+    record {
+      limits = all.0;
+      named = stands.0;
+      some_hops = hops.0;
+      few_hops = hops.1;
+      first = attempts.0;
+      last = attempts.1;
+      due = le_of mail.due (latest_attempt mail.hops number) last.0;
+      path = le_of (length mail.name.path + measure mail) 102_203 last.1;
+    }
+
+pub tried_sound : (plan : Plan) (delivery host : List ℕ) (number : ℕ) (mail : Mail) → Tried plan delivery number mail
+    → (keeps_limits mail && may_stand plan (Remote delivery host number) mail) ≡ true
+tried_sound plan delivery host number mail t =
+    let path = nat_le (length mail.name.path + measure mail) 102_203 in
+    let due = nat_le mail.due (latest_attempt mail.hops number) in
+    let bounds = is_between 1 1_000 mail.hops && is_between 1 101 number in
+    let hops = both_true (nat_le 1 mail.hops) (nat_le mail.hops 1_000) (of_le 1 mail.hops t.some_hops) (of_le mail.hops 1_000 t.few_hops) in
+    let attempts = both_true (nat_le 1 number) (nat_le number 101) (of_le 1 number t.first) (of_le number 101 t.last) in
+    let numbers = both_true (is_between 1 1_000 mail.hops) (is_between 1 101 number) hops attempts in
+    let last = both_true due path (of_le mail.due (latest_attempt mail.hops number) t.due) (of_le (length mail.name.path + measure mail) 102_203 t.path) in
+    both_true (keeps_limits mail) (may_stand plan (Remote delivery host number) mail) t.limits
+    (both_true (names_delivery plan delivery) (bounds && (due && path)) t.named (both_true bounds (due && path) numbers last))
 
 -- ---- Limits
 

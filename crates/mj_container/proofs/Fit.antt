@@ -1,8 +1,7 @@
 -- A sound mail is fit for a mailet, and so is what a mailet leaves of a fit one.
-use Rattle.std.proofs.Common.{◌≡◌, ℕ, ◌<◌, ◌≤◌, true, false, List, subst, arith, Result, Ok, Err}
+use Rattle.std.proofs.Common.{◌≡◌, ℕ, ◌<◌, ◌≤◌, true, List, refl, subst, arith, Result, Ok, Err}
 use Rattle.std.specs.Prelude.{◌&&◌}
 use Rattle.std.specs.List.{list_all}
-use Rattle.std.proofs.lemmas.Bool.{and_parts, false≢true}
 use Rattle.mj_address.specs.Short.{is_short}
 use Rattle.mj_address.specs.Grammar.{Mailbox}
 use Rattle.mj_mail.specs.declared.mail.Mail.{Mail}
@@ -11,6 +10,7 @@ use Rattle.mj_mail.specs.declared.mail.Stage.TheVariants.{Process, Remote}
 use Rattle.mj_mail.specs.Mail.{restrict}
 use Rattle.mj_mail.specs.Rules.{has_recipients}
 use Rattle.mj_plan.specs.declared.mailet.MailetKind.{MailetKind}
+use Rattle.mj_plan.specs.declared.mailet.MailetKind.TheVariants as mailet
 use Rattle.mj_plan.specs.declared.plan.Plan.{Plan}
 use Rattle.mj_plan.specs.Sound.{IsSound}
 use Rattle.mj_container.specs.declared.service.Onward.{Onward}
@@ -20,8 +20,8 @@ use Rattle.mj_container.specs.declared.service.ServeError.TheVariants.{Failed, M
 use Rattle.mj_container.specs.declared.service.Served.{Served}
 use Rattle.mj_container.specs.declared.service.Unserved.{Unserved}
 use Rattle.mj_container.specs.Serving.{Gives, HasFit, KeepsFit, serve}
-use Rattle.mj_container.specs.Sound.{IsFit, is_sound, keeps_limits, latest, may_stand}
-use Rattle.mj_container.proofs.Facts.{waits}
+use Rattle.mj_container.specs.Sound.{IsFit, is_sound, keeps_limits, latest, latest_attempt, may_stand}
+use Rattle.mj_container.proofs.Facts.{tried, waits}
 use Rattle.mj_container.proofs.Services.{IsMailet, IsOnward, IsPart, IsService, is_part, restricted_part, serve_lawful}
 
 -- ---- A sound mail
@@ -30,11 +30,17 @@ early : (hops : ℕ) → hops ≤ 1_001 → latest hops < 253_402_300_800_000
 unfolding latest
 early hops few = omega (arith, few)
 
+early_attempt : (hops number : ℕ) → hops ≤ 1_000 → number ≤ 101 → latest_attempt hops number < 253_402_300_800_000
+unfolding latest_attempt
+early_attempt hops number few least = omega (arith, few, least)
+
 fit_at : (plan : Plan) (stage : Stage) (mail : Mail) → (keeps_limits mail && may_stand plan stage mail) ≡ true → IsFit mail
 fit_at plan (Process state) mail h =
     let w = waits plan state mail h in
     record { limits = w.limits; hops = omega (arith, w.hops); due = omega (arith, w.due, early mail.hops w.hops) }
-fit_at plan (Remote delivery host attempt) mail h = absurd (false≢true (and_parts (keeps_limits mail) false h).1)
+fit_at plan (Remote delivery host number) mail h =
+    let t = tried plan delivery host number mail h in
+    record { limits = t.limits; hops = omega (arith, t.few_hops); due = omega (arith, t.due, early_attempt mail.hops number t.few_hops t.last) }
 
 pub sound_fit : (plan : Plan) (mail : Mail) → is_sound plan mail ≡ true → IsFit mail
 sound_fit plan mail h = fit_at plan mail.stage mail h
@@ -64,6 +70,12 @@ service_fit : (plan : Plan) (mail : Mail) (service : Result Served Unserved) →
 service_fit plan mail (Ok served) fit s = onward_fit plan mail served.onward fit s.1
 service_fit plan mail (Err unserved) fit s = of_part mail unserved.mail fit s.0
 
+-- a remote delivery lets no mail go on, and what other mailets give asks for no delivery of the plan
+served_fit : (plan : Plan) → IsSound plan → (kind : MailetKind) → IsMailet plan kind → (mail : Mail) → IsFit mail → KeepsFitOf (serve plan kind mail)
+served_fit plan sound (mailet.RemoteDelivery outgoing schedule gateway bounce_processor) formed mail fit = tt
+served_fit plan sound kind formed mail fit =
+    service_fit plan mail (serve plan kind mail) fit (serve_lawful plan sound mail kind mail (is_part mail fit.limits) formed refl)
+
 answer_fit : (answer : Result Served ServeError) (service : Result Served Unserved) → KeepsFitOf service → Gives answer service → KeepsFit answer
 answer_fit (Ok served) service fit g = subst KeepsFitOf g fit
 answer_fit (Err (Failed unserved)) service fit g = subst KeepsFitOf g fit
@@ -72,4 +84,4 @@ answer_fit (Err Memory) service fit g = tt
 pub serve_fit : (plan : Plan) → IsSound plan → (kind : MailetKind) → IsMailet plan kind → (mail : Mail) → IsFit mail → (answer : Result Served ServeError)
     → Gives answer (serve plan kind mail) → KeepsFit answer
 serve_fit plan sound kind formed mail fit answer g =
-    answer_fit answer (serve plan kind mail) (service_fit plan mail (serve plan kind mail) fit (serve_lawful plan sound mail kind mail (is_part mail fit.limits) formed)) g
+    answer_fit answer (serve plan kind mail) (served_fit plan sound kind formed mail fit) g

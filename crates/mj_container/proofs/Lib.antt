@@ -3,9 +3,14 @@ pub mod Facts
 pub mod Changes
 pub mod Expansions
 pub mod DateTexts
+pub mod Groups
 pub mod Notices
 pub mod Services
+pub mod Children
+pub mod Deliveries
 pub mod Steps
+pub mod Replies
+pub mod Settled
 pub mod Stays
 pub mod Fit
 pub mod Laws

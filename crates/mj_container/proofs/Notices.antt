@@ -1,13 +1,14 @@
 -- A notice keeps the limits of a mail.
-use Rattle.std.proofs.Common.{◌≡◌, ℕ, ◌+◌, ◌*◌, ◌≤◌, true, List, [], ◌∷◌, ◌++◌, length, refl, arith, length-append}
+use Rattle.std.proofs.Common.{◌≡◌, ℕ, suc, ◌+◌, ◌*◌, ◌≤◌, true, List, [], ◌∷◌, ◌++◌, length, refl, ap, arith, length-append}
 use Rattle.std.specs.Prelude.{codes}
-use Rattle.std.specs.List.{flat_map, list_all}
+use Rattle.std.specs.List.{AllByRecursion, flat_map, list_all}
 use Rattle.std.proofs.lemmas.Bool.{and_parts}
 use Rattle.mj_address.specs.Grammar.{Mailbox}
 use Rattle.mj_address.specs.Reading.{spelled}
 use Rattle.mj_address.specs.Short.{is_short, is_short_domain}
 use Rattle.mj_address.proofs.Short.{spelled_short}
 use Rattle.mj_head.specs.Head.{written}
+use Rattle.mj_mail.specs.declared.failure.Failure.{Failure}
 use Rattle.mj_mail.specs.declared.limits.TheConstants.{MAX_BODY, MAX_HEAD}
 use Rattle.mj_mail.specs.declared.mail.Mail.{Mail}
 use Rattle.mj_plan.specs.declared.plan.Plan.{Plan}
@@ -57,22 +58,25 @@ closing_short mail short =
     let e2 = length-append (front ++ line []) (written mail.head) in
     omega (arith, short, e1, e2)
 
--- an address and a message in a line
-failure_short : (r : Mailbox) (message : List ℕ) → is_short r ≡ true → length message ≤ 512 → length (failure_line (record { recipient = r; reason = message })) ≤ 900
-failure_short r message short few =
-    let address = spelled_short r short in
-    let front = 60 ∷ spelled r in
-    let e1 = length-append front (codes ">: ") in
-    let e2 = length-append (front ++ codes ">: ") message in
-    omega (arith, few, address, e1, e2, line_len (front ++ codes ">: " ++ message))
+-- a failure with a short address, and a reason of at most 516 bytes: a code, a space and a text
+abbrev pub IsTold : Failure → Type 0
+IsTold failure = (is_short failure.recipient ≡ true) × (length failure.reason ≤ 516)
 
-failures_short : (message : List ℕ) (rs : List Mailbox) → list_all is_short rs ≡ true → length message ≤ 512 → length (flat_map failure_line (failures message rs)) ≤ length rs * 900
-failures_short message [] short few = omega arith
-failures_short message (r ∷ rs) short few =
-    let each = and_parts (is_short r) (list_all is_short rs) short in
-    let one = failure_short r message each.0 few in
-    let rest = failures_short message rs each.1 few in
-    let e = length-append (failure_line (record { recipient = r; reason = message })) (flat_map failure_line (failures message rs)) in
+-- an address and a reason in a line
+failure_short : (failure : Failure) → IsTold failure → length (failure_line failure) ≤ 900
+failure_short failure told =
+    let address = spelled_short failure.recipient told.0 in
+    let front = 60 ∷ spelled failure.recipient in
+    let e1 = length-append front (codes ">: ") in
+    let e2 = length-append (front ++ codes ">: ") failure.reason in
+    omega (arith, told.1, address, e1, e2, line_len (front ++ codes ">: " ++ failure.reason))
+
+failures_short : (failed : List Failure) → AllByRecursion IsTold failed → length (flat_map failure_line failed) ≤ length failed * 900
+failures_short [] told = omega arith
+failures_short (failure ∷ failed) told =
+    let one = failure_short failure told.0 in
+    let rest = failures_short failed told.1 in
+    let e = length-append (failure_line failure) (flat_map failure_line failed) in
     omega (arith, one, rest, e)
 
 undelivered_from : (front words lines back : List ℕ) → length front ≤ 300 → length words ≤ 100 → length lines ≤ 450_000 → length back ≤ 65_600
@@ -85,12 +89,27 @@ undelivered_from front words lines back a b c d =
     let e5 = length-append (front ++ words ++ line [] ++ lines ++ line []) back in
     omega (arith, a, b, c, d, e1, e2, e3, e4, e5)
 
+-- a notice about at most 500 failures
+pub undelivered_told : (plan : Plan) (mail : Mail) (failed : List Failure) → is_short_domain plan.host_name ≡ true → length (written mail.head) ≤ 65_536
+    → length failed ≤ 500 → AllByRecursion IsTold failed → length (undelivered plan mail failed) ≤ 16_777_216
+undelivered_told plan mail failed host head most told =
+    let lines = failures_short failed told in
+    undelivered_from (opening plan) (line (codes "Your message could not be delivered to:")) (flat_map failure_line failed) (closing mail)
+    (opening_short plan host) (omega arith) (omega (arith, lines, most)) (closing_short mail head)
+
+all_told : (message : List ℕ) (rs : List Mailbox) → length message ≤ 512 → list_all is_short rs ≡ true → AllByRecursion IsTold (failures message rs)
+all_told message [] few short = tt
+all_told message (r ∷ rs) few short = let each = and_parts (is_short r) (list_all is_short rs) short in ((each.0, omega (arith, few)), all_told message rs few each.1)
+
+failures_len : (message : List ℕ) (rs : List Mailbox) → length (failures message rs) ≡ length rs
+failures_len message [] = refl
+failures_len message (r ∷ rs) = ap suc (failures_len message rs)
+
+-- the same where all failed for one reason
 pub undelivered_short : (plan : Plan) (mail : Mail) (message : List ℕ) (rs : List Mailbox) → is_short_domain plan.host_name ≡ true → length (written mail.head) ≤ 65_536
     → length message ≤ 512 → length rs ≤ 500 → list_all is_short rs ≡ true → length (undelivered plan mail (failures message rs)) ≤ 16_777_216
 undelivered_short plan mail message rs host head few most short =
-    let lines = failures_short message rs short few in
-    undelivered_from (opening plan) (line (codes "Your message could not be delivered to:")) (flat_map failure_line (failures message rs)) (closing mail)
-    (opening_short plan host) (omega arith) (omega (arith, lines, most)) (closing_short mail head)
+    undelivered_told plan mail (failures message rs) host head (omega (arith, most, failures_len message rs)) (all_told message rs few short)
 
 troubled_from : (front error back : List ℕ) → length front ≤ 300 → length error ≤ 1_000 → length back ≤ 65_600 → length (front ++ line (codes "Error: " ++ error) ++ line [] ++ back) ≤ 16_777_216
 troubled_from front error back a b c =

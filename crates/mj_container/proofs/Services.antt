@@ -1,7 +1,7 @@
 -- What a mailet gives of a part of a sound mail under a sound plan: facts that keep the limits, mails that are sent to processors
 -- of the plan, and a part again.
 use Rattle.std.proofs.Common.{◌≡◌, ◌∙◌, ℕ, ◌+◌, ◌≤◌, Bool, true, false, List, [], ◌∷◌, ◌++◌, length, map, refl, sym, ap, subst, arith, Option, Some, None, Result, Ok, Err}
-use Rattle.std.specs.Option.{option_map}
+use Rattle.std.specs.Option.{option_map, option_map_or}
 use Rattle.std.specs.Prelude.{nat_le, ◌&&◌, if◌then◌else◌, codes}
 use Rattle.std.specs.List.{AllByRecursion, list_all}
 use Rattle.std.proofs.lemmas.Bool.{and_parts}
@@ -18,8 +18,9 @@ use Rattle.mj_mail.specs.declared.limits.TheConstants.{MAX_ERROR, MAX_HEAD, MAX_
 use Rattle.mj_mail.specs.declared.mail.Body.{Body}
 use Rattle.mj_mail.specs.declared.mail.Body.TheVariants.{Original, Made}
 use Rattle.mj_mail.specs.declared.mail.Mail.{Mail}
-use Rattle.mj_mail.specs.declared.mail.Stage.TheVariants.{Process}
-use Rattle.mj_mail.specs.Mail.{body_len, restrict, root}
+use Rattle.mj_mail.specs.declared.mail.Stage.{Stage}
+use Rattle.mj_mail.specs.declared.mail.Stage.TheVariants.{Process, Remote}
+use Rattle.mj_mail.specs.Mail.{body_len, restrict}
 use Rattle.mj_mail.specs.Outcome.{nothing, one_fact}
 use Rattle.mj_mail.specs.Rules.{HasOwnBody, IsOwnBody, has_recipients, is_short_sender, is_small_body, is_storable}
 use Rattle.mj_plan.specs.declared.mailet.MailetKind.{MailetKind}
@@ -27,7 +28,7 @@ use Rattle.mj_plan.specs.declared.mailet.MailetKind.TheVariants as mailet
 use Rattle.mj_plan.specs.declared.plan.Plan.{Plan}
 use Rattle.mj_plan.specs.Forms.{is_printable}
 use Rattle.mj_terms.specs.Text.{same_text}
-use Rattle.mj_plan.specs.Sound.{IsSound, are_items, ascends, has_items, is_attribute as is_set, is_mailet, is_mapping, is_target, names_of}
+use Rattle.mj_plan.specs.Sound.{IsSound, are_items, ascends, has_items, is_attribute as is_set, is_mailet, is_mapping, is_target, names_of, outgoing_of}
 use Rattle.mj_container.specs.declared.service.Onward.{Onward}
 use Rattle.mj_container.specs.declared.service.Onward.TheVariants.{GoOn, Leave, End}
 use Rattle.mj_container.specs.declared.service.Served.{Served}
@@ -36,11 +37,12 @@ use Rattle.mj_container.specs.Changes.{field_of, fields_from, postmaster_alias, 
 use Rattle.mj_container.specs.Expansion.{Expanded, rewritten}
 use Rattle.mj_container.specs.Matching.{is_host_of}
 use Rattle.mj_container.specs.Notices.{failures, notice, postmaster_notice, troubled, undelivered}
-use Rattle.mj_container.specs.Serving.{bounced, delivered, deposit, fails, forwarded, goes, passed, serve, with_rewritten}
-use Rattle.mj_container.specs.Sound.{are_attributes, is_attribute, keeps_limits, names_processor}
+use Rattle.mj_container.specs.Serving.{bounced, by_domain, delivered, deliveries, deposit, fails, forwarded, goes, passed, sent_out, serve, with_rewritten}
+use Rattle.mj_container.specs.Sound.{are_attributes, is_attribute, keeps_limits, names_delivery, names_processor}
 use Rattle.mj_container.proofs.Changes.{few_distinct, fields_shorter, put_each, removed_fewer, removed_formed, some_distinct}
 use Rattle.mj_container.proofs.Expansions.{AreRewritten, AreShort, are_rewritten, rewritten_short}
 use Rattle.mj_container.proofs.Facts.{both_true, le_of, limits_kept, limits_of, of_le, shorter}
+use Rattle.mj_container.proofs.Groups.{IsGroup, all_mapped, domain_groups}
 use Rattle.mj_container.proofs.Notices.{notice_limits, troubled_short, undelivered_short}
 
 -- ---- Parts, children and facts
@@ -53,11 +55,14 @@ pub record IsPart (mail part : Mail) : Type 0 where
   pub due : part.due ≡ mail.due
   pub limits : keeps_limits part ≡ true
 
--- a mail that a step makes of this one: it is sent to a processor of the plan
+-- the stage is a processor of the plan, or the first attempt by a remote delivery of the plan
+abbrev pub IsAhead : Plan → Stage → Type 0
+IsAhead plan (Process state) = names_processor plan state ≡ true
+IsAhead plan (Remote delivery host number) = (names_delivery plan delivery ≡ true) × (number ≡ 1)
+
+-- a mail that a processor makes of this one: it is sent to another processor of the plan, or to a host
 pub record IsSent (plan : Plan) (mail child : Mail) : Type 0 where
-  pub state : List ℕ
-  pub stage : child.stage ≡ Process state
-  pub named : names_processor plan state ≡ true
+  pub ahead : IsAhead plan child.stage
   pub name : child.name ≡ mail.name
   pub body : IsOwnBody mail.body child.body
   pub hops : child.hops ≡ mail.hops + 1
@@ -73,10 +78,6 @@ pub record IsKept (mail : Mail) (fact : Fact) : Type 0 where
 pub record IsLawful (plan : Plan) (mail : Mail) (outcome : Outcome) : Type 0 where
   pub children : AllByRecursion (IsSent plan mail) outcome.children
   pub facts : AllByRecursion (IsKept mail) outcome.facts
-
-pub all_append : {X : Type 0} (P : X → Type 0) (xs ys : List X) → AllByRecursion P xs → AllByRecursion P ys → AllByRecursion P (xs ++ ys)
-all_append P [] ys a b = b
-all_append P (x ∷ xs) ys a b = (a.0, all_append P xs ys a.1 b)
 
 pub own_body : (body : Body) → IsOwnBody body body
 own_body (Original number len) = refl
@@ -181,6 +182,13 @@ IsTarget plan state = is_target (names_of plan.processors) state ≡ true
 abbrev pub IsMailet : Plan → MailetKind → Type 0
 IsMailet plan kind = is_mailet (names_of plan.processors) kind ≡ true
 
+-- where the mailet is a remote delivery, the plan has one of its name
+abbrev pub has_delivery : Plan → MailetKind → Bool
+has_delivery plan kind = option_map_or (names_delivery plan) (outgoing_of kind) true
+
+abbrev pub HasDelivery : Plan → MailetKind → Type 0
+HasDelivery plan kind = has_delivery plan kind ≡ true
+
 abbrev pub IsOnward : Plan → Mail → Onward → Type 0
 IsOnward plan mail (GoOn part) = IsPart mail part
 IsOnward plan mail (Leave part state) = IsPart mail part × IsTarget plan state
@@ -256,9 +264,7 @@ module _ (plan : Plan) (sound : IsSound plan) (mail : Mail) where
   forwarded_sent part to p some short =
       let l = limits_of part p.limits in
       record {
-        state = root;
-        stage = refl;
-        named = sound.root;
+        ahead = sound.root;
         name = p.name;
         body = subst (λ body. IsOwnBody mail.body body) (sym p.body) (own_body mail.body);
         hops = ap (λ h. h + 1) p.hops;
@@ -270,9 +276,7 @@ module _ (plan : Plan) (sound : IsSound plan) (mail : Mail) where
   notice_sent : (part : Mail) (to : Mailbox) (subject body : List ℕ) → IsPart mail part → is_short to ≡ true → length subject ≤ 100 → length body ≤ 16_777_216
       → IsSent plan mail (notice plan part to subject body)
   notice_sent part to subject body p short few small = record {
-    state = root;
-    stage = refl;
-    named = sound.root;
+    ahead = sound.root;
     name = p.name;
     body = tt;
     hops = ap (λ h. h + 1) p.hops;
@@ -310,37 +314,62 @@ module _ (plan : Plan) (sound : IsSound plan) (mail : Mail) where
         passing part pass_through p,
       )
 
-  pub serve_lawful : (kind : MailetKind) (part : Mail) → IsPart mail part → IsMailet plan kind → IsService plan mail (serve plan kind part)
-  serve_lawful (mailet.ToProcessor processor) part p h = (nothing_lawful plan mail, (p, h))
-  serve_lawful mailet.Null part p h = (nothing_lawful plan mail, (p, refl))
-  serve_lawful (mailet.SetMailAttribute attributes) part p h =
+  -- a mail for some of the recipients is sent to a host
+  sent_out_sent : (part : Mail) (outgoing host : List ℕ) (rs : List Mailbox) → IsPart mail part → names_delivery plan outgoing ≡ true → has_recipients rs ≡ true → list_all is_short rs ≡ true
+      → IsSent plan mail (sent_out outgoing host rs part)
+  sent_out_sent part outgoing host rs p named some short = record {
+    ahead = (named, refl);
+    name = p.name;
+    body = subst (λ body. IsOwnBody mail.body body) (sym p.body) (own_body mail.body);
+    hops = ap (λ h. h + 1) p.hops;
+    due = p.due;
+    limits = (restricted_part mail part rs p some short).limits;
+  }
+
+  few_recipients : (part : Mail) → IsPart mail part → length part.recipients ≤ 500
+  few_recipients part p =
+      le_of (length part.recipients) MAX_RECIPIENTS (and_parts (nat_le 1 (length part.recipients)) (nat_le (length part.recipients) MAX_RECIPIENTS) (limits_of part p.limits).recipients).1
+
+  deliveries_sent : (outgoing : List ℕ) (gateway : Option (List ℕ)) (part : Mail) → IsPart mail part → names_delivery plan outgoing ≡ true
+      → AllByRecursion (IsSent plan mail) (deliveries outgoing gateway part)
+  deliveries_sent outgoing (Some gateway) part p named =
+      let l = limits_of part p.limits in (sent_out_sent part outgoing gateway part.recipients p named l.recipients l.short, tt)
+  deliveries_sent outgoing None part p named =
+      all_mapped (λ group. IsGroup group.1) (IsSent plan mail) (λ group. sent_out outgoing group.0 group.1 part)
+      (λ group some. sent_out_sent part outgoing group.0 group.1 p named some.0 some.1) (by_domain part.recipients)
+      (domain_groups part.recipients (few_recipients part p) (limits_of part p.limits).short)
+
+  pub serve_lawful : (kind : MailetKind) (part : Mail) → IsPart mail part → IsMailet plan kind → HasDelivery plan kind → IsService plan mail (serve plan kind part)
+  serve_lawful (mailet.ToProcessor processor) part p h d = (nothing_lawful plan mail, (p, h))
+  serve_lawful mailet.Null part p h d = (nothing_lawful plan mail, (p, refl))
+  serve_lawful (mailet.SetMailAttribute attributes) part p h d =
       let formed = (and_parts (has_items 100 attributes) (list_all is_set attributes) (and_parts (are_items is_set attributes) (ascends attributes) h).0).1 in
       let new = with_each attributes part.attributes in
       set_by part new (nat_le (length new) MAX_ATTRIBUTES) refl p (put_each attributes part.attributes formed (formed_attributes part p))
-  serve_lawful (mailet.RemoveMailAttribute names) part p h =
+  serve_lawful (mailet.RemoveMailAttribute names) part p h d =
       going (record part { attributes = without_each names part.attributes }) (part_with_attributes mail part (without_each names part.attributes) p (fewer_attributes part names p))
-  serve_lawful mailet.RemoveAllMailAttributes part p h = going (record part { attributes = [] }) (part_with_attributes mail part [] p refl)
-  serve_lawful (mailet.SetMimeHeader name value) part p h = headed part (part.head ++ field_of name value ∷ []) p
-  serve_lawful (mailet.RemoveMimeHeader names) part p h =
+  serve_lawful mailet.RemoveAllMailAttributes part p h d = going (record part { attributes = [] }) (part_with_attributes mail part [] p refl)
+  serve_lawful (mailet.SetMimeHeader name value) part p h d = headed part (part.head ++ field_of name value ∷ []) p
+  serve_lawful (mailet.RemoveMimeHeader names) part p h d =
       going (record part { head = without_fields names part.head }) (part_with_head mail part (without_fields names part.head) p (shorter_head part names p))
-  serve_lawful (mailet.MailAttributesToMimeHeaders mapping) part p h = headed part (part.head ++ fields_from mapping part.attributes) p
-  serve_lawful (mailet.AddSubjectPrefix prefix) part p h = headed part (with_prefix prefix part.head) p
-  serve_lawful mailet.RecipientToLowerCase part p h = renamed with_lower_local lower_short part p
-  serve_lawful mailet.PostmasterAlias part p h = renamed (postmaster_alias plan) alias_short part p
-  serve_lawful mailet.RecipientRewriteTable part p h =
+  serve_lawful (mailet.MailAttributesToMimeHeaders mapping) part p h d = headed part (part.head ++ fields_from mapping part.attributes) p
+  serve_lawful (mailet.AddSubjectPrefix prefix) part p h d = headed part (with_prefix prefix part.head) p
+  serve_lawful mailet.RecipientToLowerCase part p h d = renamed with_lower_local lower_short part p
+  serve_lawful mailet.PostmasterAlias part p h d = renamed (postmaster_alias plan) alias_short part p
+  serve_lawful mailet.RecipientRewriteTable part p h d =
       let formed = formed_mappings plan sound in
       rewritten_by part (rewritten plan.mappings part.recipients) (are_rewritten plan.mappings formed part.recipients (some_recipients part p))
       (rewritten_short plan.mappings formed part.recipients (limits_of part p.limits).short) p
-  serve_lawful (mailet.Forward to pass_through) part p h =
+  serve_lawful (mailet.Forward to pass_through) part p h d =
       let formed = and_parts (has_items 500 to) (list_all is_short to) h in (
         record { children = (forwarded_sent part (distinct to) p (distinct_filled to formed.0) (distinct_short to formed.1), tt); facts = tt },
         passing part pass_through p,
       )
-  serve_lawful (mailet.Bounce message pass_through) part p h =
+  serve_lawful (mailet.Bounce message pass_through) part p h d =
       bounced_lawful part pass_through message part.sender p (shorter is_printable 1 512 message h) (limits_of part p.limits).sender
-  serve_lawful (mailet.NotifyPostmaster pass_through) part p h = notified_lawful part pass_through p
-  serve_lawful mailet.LocalDelivery part p h = (record { children = tt; facts = deliveries_kept mail part part.recipients p (limits_of part p.limits).short }, tt)
-  serve_lawful (mailet.ToRepository path pass_through) part p h =
+  serve_lawful (mailet.NotifyPostmaster pass_through) part p h d = notified_lawful part pass_through p
+  serve_lawful mailet.LocalDelivery part p h d = (record { children = tt; facts = deliveries_kept mail part part.recipients p (limits_of part p.limits).short }, tt)
+  serve_lawful (mailet.ToRepository path pass_through) part p h d =
       (record { children = tt; facts = (deposit_kept mail part path p, tt) }, passing part pass_through p)
-  serve_lawful (mailet.RemoteDelivery outgoing schedule gateway bounce_processor) part p h = (nothing_lawful plan mail, tt)
-  serve_lawful (mailet.Fail text) part p h = let short = shorter is_printable 1 512 text h in (p, omega (arith, short))
+  serve_lawful (mailet.RemoteDelivery outgoing schedule gateway bounce_processor) part p h d = (record { children = deliveries_sent outgoing gateway part p d; facts = tt }, tt)
+  serve_lawful (mailet.Fail text) part p h d = let short = shorter is_printable 1 512 text h in (p, omega (arith, short))

@@ -14,11 +14,12 @@ use Rattle.mj_mail.specs.declared.fact.Outcome.{Outcome}
 use Rattle.mj_mail.specs.declared.fact.Why.TheVariants.{Discarded}
 use Rattle.mj_mail.specs.declared.limits.TheConstants.{MAX_RECIPIENTS}
 use Rattle.mj_mail.specs.declared.mail.Mail.{Mail}
-use Rattle.mj_mail.specs.declared.mail.Stage.{Stage}
-use Rattle.mj_mail.specs.declared.mail.Stage.TheVariants.{Process, Remote}
+use Rattle.mj_mail.specs.declared.mail.Stage.TheVariants.{Process}
+use Rattle.mj_mail.specs.declared.reply.Reply.{Reply}
 use Rattle.mj_mail.specs.Mail.{restrict}
-use Rattle.mj_mail.specs.Outcome.{one_child, one_fact}
+use Rattle.mj_mail.specs.Outcome.{both, one_child, one_fact}
 use Rattle.mj_mail.specs.Rules.{IsOwnBody, has_recipients}
+use Rattle.mj_plan.specs.declared.mailet.MailetKind.{MailetKind}
 use Rattle.mj_plan.specs.declared.plan.MailetRoute.{MailetRoute}
 use Rattle.mj_plan.specs.declared.plan.MailetRoute.TheVariants as on_mailet
 use Rattle.mj_plan.specs.declared.plan.MatchRoute.{MatchRoute}
@@ -34,14 +35,16 @@ use Rattle.mj_container.specs.declared.service.Onward.TheVariants.{GoOn, Leave, 
 use Rattle.mj_container.specs.declared.service.Served.{Served}
 use Rattle.mj_container.specs.declared.service.Unserved.{Unserved}
 use Rattle.mj_container.specs.Matching.{Mailbox, first_failed}
-use Rattle.mj_container.specs.Running.{both, drafts, failed, failed_at, gone, leave_failed, part, parted, run, run_in, served, settled, split}
+use Rattle.mj_container.specs.Running.{drafts, failed, failed_at, gone, leave_failed, part, parted, run, run_in, served, settled, split}
 use Rattle.mj_container.specs.Serving.{ghost_state, leave, sent_to, serve}
 use Rattle.mj_container.specs.Sound.{keeps_limits, names_processor}
 use Rattle.mj_container.specs.Verdict.{Verdict, Leaves, Takes, by_route, judged, matcher_failed, verdict}
 use Rattle.mj_container.proofs.Changes.{all_filtered, fewer}
+use Rattle.mj_container.proofs.Deliveries.{all_placed, are_placed}
 use Rattle.mj_container.proofs.Facts.{both_true, le_of, limits_of, of_le, processor_passes, shorter}
+use Rattle.mj_container.proofs.Groups.{all_append}
 use Rattle.mj_container.proofs.Matchers.{few_failed}
-use Rattle.mj_container.proofs.Services.{IsKept, IsLawful, IsMailet, IsOnward, IsPart, IsSent, IsService, IsTarget, all_append, is_part, named_lawful, nothing_lawful, own_body, part_with_error, restricted_part, serve_lawful}
+use Rattle.mj_container.proofs.Services.{HasDelivery, IsKept, IsLawful, IsMailet, IsOnward, IsPart, IsSent, IsService, IsTarget, has_delivery, is_part, named_lawful, nothing_lawful, own_body, part_with_error, restricted_part, serve_lawful}
 
 -- ---- Texts of failures
 
@@ -70,6 +73,10 @@ module _ (plan : Plan) (sound : IsSound plan) (mail : Mail) where
     facts = all_append (IsKept mail) a.facts b.facts la.facts lb.facts;
   }
 
+  -- the mailet is one of the plan's
+  abbrev IsServed : MailetKind → Type 0
+  IsServed kind = IsMailet plan kind × HasDelivery plan kind
+
   -- ---- Leaving
 
   leave_lawful_by : (state : List ℕ) (part : Mail) (b : Bool) → IsPart mail part → bytes_eq state ghost_state ≡ b → IsTarget plan state
@@ -78,9 +85,7 @@ module _ (plan : Plan) (sound : IsSound plan) (mail : Mail) where
   leave_lawful_by state part false p e target = record {
     children = (
       record {
-        state = state;
-        stage = refl;
-        named = sym (ap (λ b. b || names_processor plan state) e) ∙ target;
+        ahead = sym (ap (λ b. b || names_processor plan state) e) ∙ target;
         name = p.name;
         body = subst (λ body. IsOwnBody mail.body body) (sym p.body) (own_body mail.body);
         hops = ap (λ h. h + 1) p.hops;
@@ -129,11 +134,11 @@ module _ (plan : Plan) (sound : IsSound plan) (mail : Mail) where
       part_lawful whole [] p fewer short = nothing_lawful plan mail
       part_lawful whole (r ∷ rs) p fewer short = on_lawful (restrict whole (r ∷ rs)) (restricted_part mail whole (r ∷ rs) p (filled whole r rs p fewer) short)
 
-      served_lawful : (step : Step) (whole : Mail) → IsPart mail whole → IsMailet plan step.mailet → is_mailet_route (names_of plan.processors) step.on_mailet ≡ true
+      served_lawful : (step : Step) (whole : Mail) → IsPart mail whole → IsServed step.mailet → is_mailet_route (names_of plan.processors) step.on_mailet ≡ true
           → IsLawful plan mail (served plan name number step on whole)
-      served_lawful step whole p m r = settled_lawful step.on_mailet (serve plan step.mailet whole) r (serve_lawful plan sound mail step.mailet whole p m)
+      served_lawful step whole p m r = settled_lawful step.on_mailet (serve plan step.mailet whole) r (serve_lawful plan sound mail step.mailet whole p m.0 m.1)
 
-      parted_lawful : (step : Step) (whole : Mail) (hits others : List Mailbox) → IsPart mail whole → IsMailet plan step.mailet → is_mailet_route (names_of plan.processors) step.on_mailet ≡ true
+      parted_lawful : (step : Step) (whole : Mail) (hits others : List Mailbox) → IsPart mail whole → IsServed step.mailet → is_mailet_route (names_of plan.processors) step.on_mailet ≡ true
           → length hits ≤ length whole.recipients → length others ≤ length whole.recipients → list_all is_short hits ≡ true → list_all is_short others ≡ true
           → IsLawful plan mail (parted (served plan name number step on) on whole hits others)
       parted_lawful step whole [] others p m r fewer_hits fewer_others short_hits short_others = on_lawful whole p
@@ -147,7 +152,7 @@ module _ (plan : Plan) (sound : IsSound plan) (mail : Mail) where
       IsVerdict (Leaves state reason) = IsTarget plan state × (length reason ≤ 700)
       IsVerdict (Takes test) = Unit {0}
 
-      split_lawful : (step : Step) (whole : Mail) (v : Verdict) → IsPart mail whole → IsMailet plan step.mailet → is_mailet_route (names_of plan.processors) step.on_mailet ≡ true → IsVerdict v
+      split_lawful : (step : Step) (whole : Mail) (v : Verdict) → IsPart mail whole → IsServed step.mailet → is_mailet_route (names_of plan.processors) step.on_mailet ≡ true → IsVerdict v
           → IsLawful plan mail (split plan name number step on whole v)
       split_lawful step whole (Leaves state reason) p m r v = leave_failed_lawful number reason state whole few v.1 p v.0
       split_lawful step whole (Takes test) p m r v =
@@ -166,36 +171,38 @@ module _ (plan : Plan) (sound : IsSound plan) (mail : Mail) where
       judged_lawful step whole None small r = tt
       judged_lawful step whole (Some condition) small r = routed step.on_match condition (small condition refl) r
 
-      stepped_lawful : (step : Step) (whole : Mail) → IsPart mail whole → is_step (names_of plan.processors) step ≡ true
+      stepped_lawful : (step : Step) (whole : Mail) → IsPart mail whole → is_step (names_of plan.processors) step ≡ true → HasDelivery plan step.mailet
           → IsLawful plan mail (split plan name number step on whole (verdict plan step whole))
-      stepped_lawful step whole p h =
+      stepped_lawful step whole p h d =
           let names = names_of plan.processors in
           let front = is_matcher step.matcher && is_match_route names step.on_match in
           let all = and_parts (front && is_mailet names step.mailet) (is_mailet_route names step.on_mailet) h in
           let most = and_parts front (is_mailet names step.mailet) all.0 in
           let first = and_parts (is_matcher step.matcher) (is_match_route names step.on_match) most.0 in
-          split_lawful step whole (verdict plan step whole) p most.1 all.1
+          split_lawful step whole (verdict plan step whole) p (most.1, d) all.1
           (judged_lawful step whole (first_failed whole step.matcher) (λ k e. few_failed whole step.matcher k first.0 e) first.1)
 
-    run_lawful : (number : ℕ) (steps : List Step) (whole : Mail) → number + length steps ≤ 201 → list_all (is_step (names_of plan.processors)) steps ≡ true → IsPart mail whole
+    run_lawful : (number : ℕ) (steps : List Step) (whole : Mail) → number + length steps ≤ 201 → list_all (is_step (names_of plan.processors)) steps ≡ true
+        → list_all (λ step. has_delivery plan step.mailet) steps ≡ true → IsPart mail whole
         → IsLawful plan mail (run plan name number steps whole)
-    run_lawful number [] whole few h p = named_lawful plan mail (FellOff name whole.recipients) (limits_of whole p.limits).recipients tt
-    run_lawful number (step ∷ steps) whole few h p =
+    run_lawful number [] whole few h d p = named_lawful plan mail (FellOff name whole.recipients) (limits_of whole p.limits).recipients tt
+    run_lawful number (step ∷ steps) whole few h d p =
         let all = and_parts (is_step (names_of plan.processors) step) (list_all (is_step (names_of plan.processors)) steps) h in
+        let placed = and_parts (has_delivery plan step.mailet) (list_all (λ step. has_delivery plan step.mailet) steps) d in
         stepped_lawful number (omega arith) (run plan name (number + 1) steps)
-        (λ part q. run_lawful (number + 1) steps part (omega arith) all.1 q) step whole p all.0
+        (λ part q. run_lawful (number + 1) steps part (omega arith) all.1 placed.1 q) step whole p all.0 placed.0
 
   run_in_lawful : (found : Option Processor) → keeps_limits mail ≡ true → ((p : Processor) → found ≡ Some p → is_processor (names_of plan.processors) p ≡ true)
-      → IsLawful plan mail (run_in plan found mail)
-  run_in_lawful None limits formed = nothing_lawful plan mail
-  run_in_lawful (Some p) limits formed =
+      → ((p : Processor) → found ≡ Some p → are_placed plan p ≡ true) → IsLawful plan mail (run_in plan found mail)
+  run_in_lawful None limits formed placed = nothing_lawful plan mail
+  run_in_lawful (Some p) limits formed placed =
       let names = names_of plan.processors in
       let called = is_processor_name p.name && not (is_reserved p.name) in
       let all = and_parts (called && nat_le (length p.steps) 200) (list_all (is_step names) p.steps) (formed p refl) in
       let front = and_parts called (nat_le (length p.steps) 200) all.0 in
       let named = shorter is_name_byte 1 64 p.name (and_parts (is_processor_name p.name) (not (is_reserved p.name)) front.0).0 in
       let few = le_of (length p.steps) 200 front.1 in
-      run_lawful p.name named 1 p.steps mail (omega arith) all.1 (is_part mail limits)
+      run_lawful p.name named 1 p.steps mail (omega arith) all.1 (placed p refl) (is_part mail limits)
 
   drafts_lawful_by : (state : List ℕ) → keeps_limits mail ≡ true → (b : Bool)
       → IsLawful plan mail (if b then one_fact (Looped mail.recipients) else run_in plan (processor_named state plan.processors) mail)
@@ -203,10 +210,11 @@ module _ (plan : Plan) (sound : IsSound plan) (mail : Mail) where
   drafts_lawful_by state limits false =
       run_in_lawful (processor_named state plan.processors) limits
       (λ p found. processor_passes (is_processor (names_of plan.processors)) state plan.processors p found sound.processors)
+      (λ p found. processor_passes (are_placed plan) state plan.processors p found (all_placed plan))
 
-  pub drafts_lawful : (stage : Stage) → keeps_limits mail ≡ true → IsLawful plan mail (drafts plan stage mail)
-  drafts_lawful (Process state) limits = drafts_lawful_by state limits (nat_le plan.max_hops mail.hops)
-  drafts_lawful (Remote delivery host attempt) limits = nothing_lawful plan mail
+  -- what a processor makes of a mail
+  pub drafts_lawful : (state : List ℕ) (replies : List Reply) → keeps_limits mail ≡ true → IsLawful plan mail (drafts plan (Process state) replies mail)
+  drafts_lawful state replies limits = drafts_lawful_by state limits (nat_le plan.max_hops mail.hops)
 
 -- ---- Only a mail with fewer hops than the plan allows has children
 
@@ -224,6 +232,5 @@ drafts_young_by : (plan : Plan) (state : List ℕ) (mail : Mail) → IsSound pla
 drafts_young_by plan state mail sound true e = inl refl
 drafts_young_by plan state mail sound false e = inr (young_of plan.max_hops mail.hops sound.max_hops e)
 
-pub drafts_young : (plan : Plan) (stage : Stage) (mail : Mail) → IsSound plan → IsYoung mail (drafts plan stage mail)
-drafts_young plan (Process state) mail sound = drafts_young_by plan state mail sound (nat_le plan.max_hops mail.hops) refl
-drafts_young plan (Remote delivery host attempt) mail sound = inl refl
+pub drafts_young : (plan : Plan) (state : List ℕ) (replies : List Reply) (mail : Mail) → IsSound plan → IsYoung mail (drafts plan (Process state) replies mail)
+drafts_young plan state replies mail sound = drafts_young_by plan state mail sound (nat_le plan.max_hops mail.hops) refl

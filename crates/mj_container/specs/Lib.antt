@@ -1,4 +1,4 @@
-pub mod Built
+pub mod Settling
 pub mod Sound
 pub mod Matching
 pub mod Verdict

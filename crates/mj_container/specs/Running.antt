@@ -13,8 +13,8 @@ use Rattle.mj_mail.specs.declared.reply.Reply.{Reply}
 use Rattle.mj_mail.specs.Entry.{kept}
 use Rattle.mj_mail.specs.Mail.{first, restrict}
 use Rattle.mj_mail.specs.Meaning.{meaning, tree, Placed}
-use Rattle.mj_mail.specs.Outcome.{nothing, numbered, one_fact}
-use Rattle.mj_mail.specs.Rules.{step_by}
+use Rattle.mj_mail.specs.Outcome.{both, nothing, numbered, one_fact}
+use Rattle.mj_mail.specs.Rules.{Replying, step_by}
 use Rattle.mj_plan.specs.declared.plan.MailetRoute.{MailetRoute}
 use Rattle.mj_plan.specs.declared.plan.MailetRoute.TheVariants.{Ignore, To}
 use Rattle.mj_plan.specs.declared.plan.Plan.{Plan}
@@ -27,12 +27,9 @@ use Rattle.mj_container.specs.declared.service.Served.{Served}
 use Rattle.mj_container.specs.declared.service.Unserved.{Unserved}
 use Rattle.mj_container.specs.Matching.{Mailbox}
 use Rattle.mj_container.specs.Serving.{leave, serve}
+use Rattle.mj_container.specs.Settling.{answers, attempt_at, settle}
 use Rattle.mj_container.specs.Sound.{is_sound, measure}
 use Rattle.mj_container.specs.Verdict.{Verdict, Leaves, Takes, verdict}
-
--- facts follow facts, and children follow children
-abbrev pub both : Outcome → Outcome → Outcome
-both a b = record { facts = a.facts ++ b.facts; children = a.children ++ b.children }
 
 -- ---- A mail that a step serves
 
@@ -94,29 +91,25 @@ abbrev pub run_in : Plan → Option Processor → Mail → Outcome
 run_in plan None mail = nothing
 run_in plan (Some processor) mail = run plan processor.name 1 processor.steps mail
 
--- what a step makes of a mail where it stands, its children without their numbers: a mail in a processor with too many
--- hops has looped
-abbrev pub drafts : Plan → Stage → Mail → Outcome
-drafts plan (Process state) mail =
+-- what a step makes of a mail where it stands, by these replies, its children without their numbers: a mail in a processor
+-- with too many hops has looped, and one that was sent to a host is settled
+abbrev pub drafts : Plan → Stage → List Reply → Mail → Outcome
+drafts plan (Process state) replies mail =
     if nat_le plan.max_hops mail.hops then one_fact (Looped mail.recipients) else run_in plan (processor_named state plan.processors) mail
-drafts plan (Remote delivery host attempt) mail = nothing
+drafts plan (Remote delivery host number) replies mail = settle plan mail (attempt_at plan delivery host number) (answers mail.recipients replies)
 
 -- what one step makes of a mail by these replies, its children numbered; what is too large to be kept is Overrun alone
 abbrev pub step : Plan → Mail → List Reply → Outcome
-step plan mail replies = kept mail.name replies (numbered (drafts plan mail.stage mail))
+step plan mail replies = kept mail.name replies (numbered (drafts plan mail.stage replies mail))
 
--- the replies to a mail: no mail has any
-abbrev pub no_replies : Plan → Mail → List Reply
-no_replies plan mail = []
-
--- what one step makes of a mail that is sound, and nothing of any other
-abbrev pub carried : Plan → Mail → Outcome
-carried plan mail = step_by is_sound no_replies step plan mail
+-- what one step makes of a mail that is sound, where hosts answer so, and nothing of any other
+abbrev pub carried : Plan → Replying → Mail → Outcome
+carried plan reply mail = step_by is_sound (λ rules. reply) step plan mail
 
 -- all that becomes of a mail under the plan
-abbrev pub fate : Plan → Mail → List Placed
-fate plan mail = tree measure (carried plan) mail
+abbrev pub fate : Plan → Replying → Mail → List Placed
+fate plan reply mail = tree measure (carried plan reply) mail
 
 -- all that becomes of what was accepted, a number and a new mail each
-abbrev pub fates : Plan → List (ℕ × NewMail) → List Placed
-fates plan accepted = meaning (first plan.start) measure (carried plan) accepted
+abbrev pub fates : Plan → Replying → List (ℕ × NewMail) → List Placed
+fates plan reply accepted = meaning (first plan.start) measure (carried plan reply) accepted

@@ -12,13 +12,15 @@ use Rattle.mj_mail.specs.declared.fact.Outcome.{Outcome}
 use Rattle.mj_mail.specs.declared.fact.Why.TheVariants.{Discarded, NoReturnPath}
 use Rattle.mj_mail.specs.declared.limits.TheConstants.{MAX_HEAD}
 use Rattle.mj_mail.specs.declared.mail.Mail.{Mail}
-use Rattle.mj_mail.specs.declared.mail.Stage.TheVariants.{Process}
+use Rattle.mj_mail.specs.declared.mail.Stage.TheVariants.{Process, Remote}
 use Rattle.mj_mail.specs.Mail.{restrict, root}
 use Rattle.mj_mail.specs.Outcome.{one_child, one_fact}
 use Rattle.mj_plan.specs.declared.mailet.MailetKind.{MailetKind}
-use Rattle.mj_plan.specs.declared.mailet.MailetKind.TheVariants.{ToProcessor, Null, SetMailAttribute, RemoveMailAttribute, RemoveAllMailAttributes, SetMimeHeader, RemoveMimeHeader, MailAttributesToMimeHeaders, AddSubjectPrefix, RecipientToLowerCase, PostmasterAlias, RecipientRewriteTable, Forward, Bounce, NotifyPostmaster, LocalDelivery, ToRepository, Fail}
+use Rattle.mj_plan.specs.declared.mailet.MailetKind.TheVariants.{ToProcessor, Null, SetMailAttribute, RemoveMailAttribute, RemoveAllMailAttributes, SetMimeHeader, RemoveMimeHeader, MailAttributesToMimeHeaders, AddSubjectPrefix, RecipientToLowerCase, PostmasterAlias, RecipientRewriteTable, Forward, Bounce, NotifyPostmaster, LocalDelivery, ToRepository, RemoteDelivery, Fail}
 use Rattle.mj_plan.specs.declared.plan.Plan.{Plan}
+use Rattle.mj_groups.specs.Groups.{grouped}
 use Rattle.mj_terms.specs.Answers.{GivesBy}
+use Rattle.mj_terms.specs.Text.{same_text}
 use Rattle.mj_container.specs.declared.rewrite_fault.RewriteFault.{RewriteFault}
 use Rattle.mj_container.specs.declared.service.Onward.{Onward}
 use Rattle.mj_container.specs.declared.service.Onward.TheVariants.{GoOn, Leave, End}
@@ -92,9 +94,22 @@ abbrev pub bounced : Bool → Mail → Option Mail → Served
 bounced pass_through mail (Some sent) = record { facts = fact.Bounce mail.recipients ∷ []; children = sent ∷ []; onward = passed pass_through mail }
 bounced pass_through mail None = record { facts = Dropped NoReturnPath mail.recipients ∷ []; children = []; onward = passed pass_through mail }
 
+-- the mail for these recipients, on its way to a host, with one hop more
+abbrev pub sent_out : List ℕ → List ℕ → List Mailbox → Mail → Mail
+sent_out outgoing host recipients mail = record mail { recipients = recipients; stage = Remote outgoing host 1; hops = mail.hops + 1 }
+
+-- the recipients at each domain, which stands as the first of them spells it
+abbrev pub by_domain : List Mailbox → List (List ℕ × List Mailbox)
+by_domain recipients = grouped same_text (map (λ r. (r.1, r)) recipients)
+
+-- through a gateway all go together, and without one the recipients at each domain go to it (RFC 5321, 5.1)
+abbrev pub deliveries : List ℕ → Option (List ℕ) → Mail → List Mail
+deliveries outgoing (Some gateway) mail = sent_out outgoing gateway mail.recipients mail ∷ []
+deliveries outgoing None mail = map (λ group. sent_out outgoing group.0 group.1 mail) (by_domain mail.recipients)
+
 -- ---- Mailets
 
--- what a mailet makes of a mail; one that isn't built stands in no plan that is taken
+-- what a mailet makes of a mail
 abbrev pub serve : Plan → MailetKind → Mail → Result Served Unserved
 serve plan (ToProcessor processor) mail = goes (Leave mail processor)
 serve plan Null mail = goes (Leave mail ghost_state)
@@ -113,8 +128,8 @@ serve plan (Bounce message pass_through) mail = Ok (bounced pass_through mail (b
 serve plan (NotifyPostmaster pass_through) mail = Ok (record { facts = []; children = postmaster_notice plan mail ∷ []; onward = passed pass_through mail })
 serve plan LocalDelivery mail = Ok (record { facts = map (delivered mail) mail.recipients; children = []; onward = End })
 serve plan (ToRepository path pass_through) mail = Ok (record { facts = deposit path mail ∷ []; children = []; onward = passed pass_through mail })
+serve plan (RemoteDelivery outgoing schedule gateway bounce_processor) mail = Ok (record { facts = []; children = deliveries outgoing gateway mail; onward = End })
 serve plan (Fail text) mail = fails text mail
-serve plan other mail = goes End
 
 -- ---- What a call answers of it
 

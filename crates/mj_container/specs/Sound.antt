@@ -1,5 +1,5 @@
 -- When a mail is sound for a plan, and how far it may still go.
-use Rattle.std.specs.Prelude.{◌≡◌, ℕ, ◌+◌, ◌-◌, ◌*◌, ◌^◌, ◌<◌, nat_le, Bool, true, false, ◌&&◌, List, length}
+use Rattle.std.specs.Prelude.{◌≡◌, ℕ, ◌+◌, ◌-◌, ◌*◌, ◌^◌, ◌<◌, nat_le, Bool, true, ◌&&◌, List, length}
 use Rattle.std.specs.List.{list_all, list_any}
 use Rattle.std.specs.Str.{bytes_eq}
 use Rattle.mj_address.specs.Short.{is_short}
@@ -13,7 +13,7 @@ use Rattle.mj_mail.specs.Mail.{body_len}
 use Rattle.mj_mail.specs.Rules.{has_recipients, is_short_sender, is_small_body}
 use Rattle.mj_plan.specs.declared.plan.Plan.{Plan}
 use Rattle.mj_plan.specs.Forms.{is_attribute_name, is_attribute_value}
-use Rattle.mj_plan.specs.Sound.{names_of}
+use Rattle.mj_plan.specs.Sound.{deliveries_of, is_between, names_of}
 
 -- ---- How far a mail may still go
 
@@ -49,17 +49,29 @@ keeps_limits mail =
 abbrev pub names_processor : Plan → List ℕ → Bool
 names_processor plan state = list_any (bytes_eq state) (names_of plan.processors)
 
+-- the plan has a remote delivery of this name
+abbrev pub names_delivery : Plan → List ℕ → Bool
+names_delivery plan delivery = list_any (bytes_eq delivery) (deliveries_of plan.processors)
+
 -- The latest moment at which a mail of so many hops is due: a mail waits at most 700 days between two hops. A plan
 -- starts before the end of the year 2100.
 unfoldable pub latest : ℕ → ℕ
 latest hops = 4_133_980_800_000 + hops * 60_480_000_000
 
--- a mail waits for a processor of the plan, within the bounds of hops, moments and names; no remote mail is carried
+-- the same of a mail that is sent to a host: it waits at most seven days before each attempt but the first
+unfoldable pub latest_attempt : ℕ → ℕ → ℕ
+latest_attempt hops number = 4_133_980_800_000 + (hops - 1) * 60_480_000_000 + (number - 1) * 604_800_000
+
+-- the mail has only such a name that each mail which it becomes has a name within the limits
+abbrev pub has_room : Mail → Bool
+has_room mail = nat_le (length mail.name.path + measure mail) 102_203
+
+-- a mail waits for a processor or for a remote delivery of the plan, within the bounds of hops, attempts, moments and names
 abbrev pub may_stand : Plan → Stage → Mail → Bool
-may_stand plan (Process state) mail =
-    names_processor plan state
-    && (nat_le mail.hops 1_001 && (nat_le mail.due (latest mail.hops) && nat_le (length mail.name.path + measure mail) 102_203))
-may_stand plan (Remote delivery host attempt) mail = false
+may_stand plan (Process state) mail = names_processor plan state && (nat_le mail.hops 1_001 && (nat_le mail.due (latest mail.hops) && has_room mail))
+may_stand plan (Remote delivery host number) mail =
+    names_delivery plan delivery
+    && ((is_between 1 1_000 mail.hops && is_between 1 101 number) && (nat_le mail.due (latest_attempt mail.hops number) && has_room mail))
 
 -- the mail is sound for the plan
 abbrev pub is_sound : Plan → Mail → Bool
