@@ -65,7 +65,7 @@ fn notice(
 {
     let head = notice_head(alloc, plan, to, subject, mail.due)?;
     let name = mail.name.copy(alloc)?;
-    let recipients = only(alloc, to)?;
+    let recipients = Recipients::one(alloc, to.copy(alloc)?)?;
     let root = Bytes::from_slice(alloc, b"root")?;
     Ok(Mail {
         name,
@@ -79,13 +79,4 @@ fn notice(
         hops: mail.hops + 1,
         due: mail.due,
     })
-}
-
-/// The list of this recipient alone.
-fn only(alloc: Global, address: &Address) -> Result<Recipients, Memory>
-    ensures { IfOk result (λ recipients. recipients ≡ address.now ∷ []) }
-{
-    let mut recipients = Recipients::new(alloc);
-    recipients.add(address.copy(alloc)?)?;
-    Ok(recipients)
 }

@@ -4,8 +4,8 @@ ghost use Rattle.mj_container.specs.Changes.{mailbox_of};
 ghost use Rattle.mj_container.specs.declared.service.Onward.TheVariants.{End};
 ghost use Rattle.mj_container.specs.Serving.{Gives, delivered as delivered_of, deposit as deposit_of, passed as passed_of};
 
-use crate::answers::passed;
 use mj_address::{Address, Recipients};
+use mj_changes::answers::passed;
 use mj_container::{Onward, ServeError, Served};
 use mj_fields::{Bytes, Items, Memory};
 use mj_mail::{Fact, Mail};
@@ -71,7 +71,7 @@ fn delivered(alloc: Global, mail: &Mail, r: &Address) -> Result<Fact, Memory>
     ensures { IfOk result (λ fact. fact ≡ delivered_of mail.now r.now) }
 {
     let mailbox = mailbox(alloc, r)?;
-    let recipients = only(alloc, r)?;
+    let recipients = Recipients::one(alloc, r.copy(alloc)?)?;
     Fact::deposit(
         alloc,
         &mailbox,
@@ -87,12 +87,4 @@ fn mailbox(alloc: Global, r: &Address) -> Result<Bytes, Memory>
     path.extend_from_slice(MAILBOXES)?;
     r.write_lower_to(&mut path)?;
     Ok(Bytes::from_vec(path))
-}
-
-fn only(alloc: Global, r: &Address) -> Result<Recipients, Memory>
-    ensures { IfOk result (λ recipients. recipients ≡ r.now ∷ []) }
-{
-    let mut recipients = Recipients::new(alloc);
-    recipients.add(r.copy(alloc)?)?;
-    Ok(recipients)
 }

@@ -4,8 +4,9 @@ ghost use Rattle.mj_container.specs.Serving.{Gives, KeepsFit, goes as goes_of, s
 ghost use Rattle.mj_container.specs.Sound.{IsFit};
 ghost use Rattle.mj_plan.specs.Sound.{IsSound, is_mailet, names_of};
 
-use crate::answers::{fails, goes};
-use crate::{attributes, deposits, fields, notices, recipients};
+use crate::{delivery, deposits, notices};
+use mj_changes::answers::{fails, goes};
+use mj_changes::{attributes, fields, recipients};
 use mj_container::{Onward, ServeError, Served};
 use mj_fields::Bytes;
 use mj_mail::Mail;
@@ -13,8 +14,7 @@ use mj_plan::{GHOST, MailetKind, Plan};
 use std::alloc::Global;
 
 /// Serves a mail by a mailet of the plan: the facts and mails that come of it, and where it goes from there. `Failed` comes exactly
-/// where the mailet fails, with the mail as it was and the text of the failure. A mail that it makes keeps the name of the mail. A
-/// mailet that isn't built gives nothing, and stands in no plan that is taken.
+/// where the mailet fails, with the mail as it was and the text of the failure. A mail that it makes keeps the name of the mail.
 pub fn serve(
     alloc: Global,
     kind: &MailetKind,
@@ -73,8 +73,12 @@ fn served(alloc: Global, kind: &MailetKind, plan: &Plan, mail: Mail) -> Result<S
         MailetKind::ToRepository { path, pass_through } => {
             deposits::store(alloc, path, *pass_through, mail)
         }
+        MailetKind::RemoteDelivery {
+            outgoing,
+            gateway,
+            ..
+        } => delivery::deliver(alloc, outgoing, gateway, mail),
         MailetKind::Fail { text } => fails(alloc, text.as_slice(), mail),
-        _ => goes(alloc, Onward::End),
     }
 }
 

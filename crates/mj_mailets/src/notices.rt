@@ -3,9 +3,9 @@ ghost use Rattle.std.specs.Prelude.{◌≡◌, ◌<◌, ◌+◌, ◌^◌, ◌∷
 ghost use Rattle.mj_container.specs.Notices.{bounce_of, failures as failures_of, postmaster_notice};
 ghost use Rattle.mj_container.specs.Serving.{Gives, bounced as bounced_of, passed as passed_of};
 
-use crate::answers::passed;
 use mj_address::Address;
 use mj_bounce::{bounce_mail, postmaster_mail};
+use mj_changes::answers::passed;
 use mj_container::{Onward, ServeError, Served};
 use mj_fields::{Bytes, Items, Memory};
 use mj_mail::{Fact, Failure, Mail, Why};
