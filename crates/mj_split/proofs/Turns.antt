@@ -12,14 +12,14 @@ use Rattle.mj_mail.specs.declared.fact.Outcome.{Outcome}
 use Rattle.mj_mail.specs.declared.limits.TheConstants.{MAX_RECIPIENTS}
 use Rattle.mj_mail.specs.declared.mail.Mail.{Mail}
 use Rattle.mj_mail.specs.Mail.{restrict}
-use Rattle.mj_mail.specs.Outcome.{nothing, one_fact}
+use Rattle.mj_mail.specs.Outcome.{both, nothing, one_fact}
 use Rattle.mj_plan.specs.declared.plan.Plan.{Plan}
 use Rattle.mj_plan.specs.declared.plan.Processor.{Processor}
 use Rattle.mj_plan.specs.declared.plan.Step.{Step}
 use Rattle.mj_plan.specs.Forms.{is_processor_name}
 use Rattle.mj_plan.specs.Sound.{is_mailet, is_mailet_route, is_match_route, is_matcher, is_processor, is_reserved, is_step}
 use Rattle.mj_container.specs.Matching.{Mailbox}
-use Rattle.mj_container.specs.Running.{both, part, parted, run, served, split}
+use Rattle.mj_container.specs.Running.{part, parted, run, served, split}
 use Rattle.mj_container.specs.Sound.{IsFit}
 use Rattle.mj_container.specs.Verdict.{verdict}
 use Rattle.mj_container.proofs.Facts.{both_true, le_of, limits_of, of_le}

@@ -1,6 +1,7 @@
 //! How a mail leaves a processor.
 ghost use Rattle.std.specs.Prelude.{◌≡◌, ◌<◌, ◌+◌, ◌^◌, OnOk};
-ghost use Rattle.mj_container.specs.Running.{both, leave_failed as leave_failed_of};
+ghost use Rattle.mj_mail.specs.Outcome.{both};
+ghost use Rattle.mj_container.specs.Running.{leave_failed as leave_failed_of};
 ghost use Rattle.mj_container.specs.Serving.{leave as leave_of};
 
 use crate::step_at::StepAt;

@@ -1,6 +1,7 @@
 //! A part that a step serves, and what comes of it.
 ghost use Rattle.std.specs.Prelude.{◌≡◌, ◌++◌, true, IfOk, OnOk};
-ghost use Rattle.mj_container.specs.Running.{both, failed as failed_of, gone as gone_of, served as served_of};
+ghost use Rattle.mj_mail.specs.Outcome.{both};
+ghost use Rattle.mj_container.specs.Running.{failed as failed_of, gone as gone_of, served as served_of};
 ghost use Rattle.mj_container.specs.Serving.{HasFit};
 ghost use Rattle.mj_container.specs.Sound.{IsFit};
 ghost use Rattle.mj_mail.specs.declared.fact.Outcome.{Outcome as OutcomeValue};

@@ -2,7 +2,8 @@
 ghost use Rattle.std.specs.Prelude.{◌≡◌, true, length, IfOk};
 ghost use Rattle.std.specs.List.{list_any};
 ghost use Rattle.mj_address.specs.Masks.{left, taken};
-ghost use Rattle.mj_container.specs.Running.{both, parted, served as served_of, split as split_of};
+ghost use Rattle.mj_mail.specs.Outcome.{both};
+ghost use Rattle.mj_container.specs.Running.{parted, served as served_of, split as split_of};
 ghost use Rattle.mj_container.specs.Sound.{IsFit};
 ghost use Rattle.mj_container.specs.Verdict.{verdict};
 ghost use Rattle.mj_mail.specs.declared.fact.Outcome.{Outcome as OutcomeValue};

@@ -1,31 +1,37 @@
 ghost use Rattle.std.specs.Prelude.{◌≡◌, true};
+ghost use Rattle.std.specs.List.{list_all};
 ghost use Rattle.mj_plan.specs.Sound.{IsSound};
-ghost use Rattle.mj_container.specs.Built.{is_built};
+ghost use Rattle.mj_answers.specs.Places.{has_reply};
 
 use crate::stepping::step;
+use mj_address::{Address, Domain};
+use mj_answers::Answers;
 use mj_fields::{Items, Memory};
 use mj_mail::{Mail, NewMail, Outcome, Reply, Rules};
 use mj_plan::Plan;
 use std::alloc::Global;
 
-/// The rules of a sound plan of which each step is built.
+/// The rules of a site: a sound plan, and a table of what remote hosts answer.
 #[derive(Debug, Drop)]
 pub struct JamesRules {
     pub plan: Plan,
+    pub answers: Answers,
     ghost sound: { IsSound plan },
-    ghost built: { is_built plan ≡ true },
+    ghost formed: { list_all has_reply answers ≡ true },
 }
 
 impl Rules for JamesRules {
     ghost use Rattle.std.specs.Prelude.{◌≡◌, refl};
     ghost use Rattle.mj_mail.specs.Mail.{first as first_mail};
-    ghost use Rattle.mj_container.specs.Running.{no_replies, step as step_of};
+    ghost use Rattle.mj_answers.specs.Fitting.{reply_for};
+    ghost use Rattle.mj_answers.proofs.Replies.{reply_for_formed};
+    ghost use Rattle.mj_container.specs.Running.{step as step_of};
     ghost use Rattle.mj_container.specs.Sound.{is_sound as is_sound_mail, measure as measure_of};
     ghost use Rattle.mj_container.proofs.Laws as laws;
 
     ghost first_of = { λ rules number new. first_mail rules.plan.start number new };
 
-    ghost replies_to = { λ rules mail. no_replies rules.plan mail };
+    ghost reply_of = { λ rules. reply_for rules.answers };
 
     ghost outcome_of = { λ rules mail replies. step_of rules.plan mail replies };
 
@@ -37,13 +43,15 @@ impl Rules for JamesRules {
         mail.first(alloc, self.plan.start, number)
     }
 
-    fn replies(&self, alloc: Global, _mail: &Mail) -> Result<Items<Reply>, Memory> {
-        Ok(Items::new(alloc))
+    fn reply(&self, host: &Domain, recipient: &Address, attempt: u32) -> &Reply {
+        self.answers.reply_for(host, recipient, attempt)
     }
 
     fn step(&self, alloc: Global, mail: &Mail, replies: &Items<Reply>) -> Result<Outcome, Memory> {
         step(alloc, &self.plan, mail, replies)
     }
+
+    ghost reply_formed = { λ rules host recipient attempt. reply_for_formed rules.answers rules.formed host recipient attempt };
 
     ghost first_sound = { λ rules number new acceptable. laws.first_sound rules.plan rules.sound number new acceptable };
 
@@ -51,21 +59,21 @@ impl Rules for JamesRules {
 
     ghost first_body = { λ rules number new. refl };
 
-    ghost children_sound = { λ rules mail sound. laws.children_sound rules.plan rules.sound mail sound };
+    ghost children_sound = { λ rules mail sound. laws.children_sound rules.plan rules.sound (reply_for rules.answers) (reply_for_formed rules.answers rules.formed) mail sound };
 
-    ghost children_named = { λ rules mail sound. laws.children_named rules.plan rules.sound mail sound };
+    ghost children_named = { λ rules mail sound. laws.children_named rules.plan rules.sound (reply_for rules.answers) (reply_for_formed rules.answers rules.formed) mail sound };
 
-    ghost falls = { λ rules mail sound. laws.falls rules.plan rules.sound mail sound };
+    ghost falls = { λ rules mail sound. laws.falls rules.plan rules.sound (reply_for rules.answers) (reply_for_formed rules.answers rules.formed) mail sound };
 
-    ghost facts_own = { λ rules mail sound. laws.facts_own rules.plan rules.sound mail sound };
+    ghost facts_own = { λ rules mail sound. laws.facts_own rules.plan rules.sound (reply_for rules.answers) (reply_for_formed rules.answers rules.formed) mail sound };
 
-    ghost children_own = { λ rules mail sound. laws.children_own rules.plan rules.sound mail sound };
+    ghost children_own = { λ rules mail sound. laws.children_own rules.plan rules.sound (reply_for rules.answers) (reply_for_formed rules.answers rules.formed) mail sound };
 
-    ghost facts_storable = { λ rules mail sound. laws.facts_storable rules.plan rules.sound mail sound };
+    ghost facts_storable = { λ rules mail sound. laws.facts_storable rules.plan rules.sound (reply_for rules.answers) (reply_for_formed rules.answers rules.formed) mail sound };
 
-    ghost children_storable = { λ rules mail sound. laws.children_storable rules.plan rules.sound mail sound };
+    ghost children_storable = { λ rules mail sound. laws.children_storable rules.plan rules.sound (reply_for rules.answers) (reply_for_formed rules.answers rules.formed) mail sound };
 
-    ghost stays = { λ rules mail sound. laws.stays rules.plan rules.sound mail sound rules.built };
+    ghost stays = { λ rules mail sound. laws.stays rules.plan rules.sound (reply_for rules.answers) (reply_for_formed rules.answers rules.formed) mail sound };
 
-    ghost done_small = { λ rules mail sound. laws.done_small rules.plan rules.sound mail sound };
+    ghost done_small = { λ rules mail sound. laws.done_small rules.plan rules.sound (reply_for rules.answers) (reply_for_formed rules.answers rules.formed) mail sound };
 }

@@ -1,4 +1,4 @@
-//! The rules of the container: what one step makes of a mail under a plan.
+//! The rules of the container: what one step makes of a mail under a plan, where remote hosts answer by a table.
 #![tactic(auto)]
 
 mod james_rules;

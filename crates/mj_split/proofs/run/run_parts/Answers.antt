@@ -1,6 +1,7 @@
 use Rattle.std.proofs.Common.{◌∙◌, ◌+◌, ◌++◌, sym, ap, arith}
 use Rattle.std.proofs.lemmas.Option.{slice_get_within}
-use Rattle.mj_container.specs.Running.{both, run, split}
+use Rattle.mj_mail.specs.Outcome.{both}
+use Rattle.mj_container.specs.Running.{run, split}
 use Rattle.mj_container.specs.Verdict.{verdict}
 use Rattle.mj_plan.specs.Sound.{names_of}
 use Rattle.mj_split.specs.Parts.{waits_at}

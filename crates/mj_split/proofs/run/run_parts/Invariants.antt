@@ -1,5 +1,6 @@
 use Rattle.std.proofs.Common.{◌≡◌, length}
-use Rattle.mj_container.specs.Running.{both, run}
+use Rattle.mj_mail.specs.Outcome.{both}
+use Rattle.mj_container.specs.Running.{run}
 use Rattle.mj_split.specs.Parts.{WaitFit}
 use Rattle.mj_split.proofs.Turns.{pending, weight}
 use Rattle.mj_split.proofs.run.run_parts.Given as goal

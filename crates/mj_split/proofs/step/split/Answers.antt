@@ -2,7 +2,8 @@ use Rattle.std.proofs.Common.{◌≡◌, ◌∙◌, List, true, false, sym, ap, 
 use Rattle.std.specs.List.{list_any}
 use Rattle.mj_address.specs.Masks.{left, taken}
 use Rattle.mj_container.specs.Matching.{Mailbox}
-use Rattle.mj_container.specs.Running.{both, parted, served}
+use Rattle.mj_mail.specs.Outcome.{both}
+use Rattle.mj_container.specs.Running.{parted, served}
 use Rattle.mj_address.specs.Short.{is_short}
 use Rattle.mj_container.specs.Sound.{IsFit}
 use Rattle.mj_container.proofs.Facts.{limits_of}

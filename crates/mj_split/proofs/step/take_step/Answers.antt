@@ -1,7 +1,8 @@
 use Rattle.std.proofs.Common.{◌≡◌, ◌∙◌, sym, ap, subst}
 use Rattle.std.specs.Prelude.{IfOk}
 use Rattle.mj_address.specs.Masks.{left, taken}
-use Rattle.mj_container.specs.Running.{both, leave_failed, parted, served, split}
+use Rattle.mj_mail.specs.Outcome.{both}
+use Rattle.mj_container.specs.Running.{leave_failed, parted, served, split}
 use Rattle.mj_container.specs.Verdict.{verdict}
 use Rattle.mj_mail.specs.declared.fact.Outcome.{Outcome}
 use Rattle.mj_mail.specs.declared.mail.Mail.{Mail}
