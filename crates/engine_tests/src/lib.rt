@@ -4,6 +4,8 @@
 #[cfg(test)]
 mod mailets;
 #[cfg(test)]
+mod remote;
+#[cfg(test)]
 mod runs;
 #[cfg(test)]
 mod splits;

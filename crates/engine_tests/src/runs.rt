@@ -84,6 +84,18 @@ pub(crate) fn folder(
     failing(alloc, held(alloc, configuration, file)?, call)
 }
 
+/// A folder with this configuration, this table of answers, and this mail.
+pub(crate) fn site(
+    alloc: Global,
+    configuration: &str,
+    answers: &str,
+    mail: &str,
+) -> Result<MemoryFiles, Memory> {
+    let mut files = held(alloc, configuration, ("conf/answers.toml", answers))?;
+    put(alloc, &mut files, "mails/a.mail", mail)?;
+    failing(alloc, files, 0)
+}
+
 /// A folder with a configuration that deposits each mail, and with this file.
 fn plain(alloc: Global, file: (&str, &str), call: u64) -> Result<MemoryFiles, Memory> {
     let configuration = format!(in alloc; "{SPOOL}{DEPOSIT}{ERROR}")?;
@@ -153,7 +165,7 @@ pub(crate) fn assert_so(rt: &impl Abort, is_so: bool, case: &str) {
 }
 
 /// What the row looks at, the words, the calls on the files and on the sink that fail, the status, and what is written.
-const ENDINGS: [(&str, &[&str], (u64, u64), (u8, &str)); 13] = [
+const ENDINGS: [(&str, &[&str], (u64, u64), (u8, &str)); 14] = [
     ("run", &["run"], (0, 0), (0, DEPOSITED)),
     ("an empty word", &[""], (0, 0), (2, USAGE)),
     ("fly", &["fly"], (0, 0), (2, USAGE)),
@@ -163,9 +175,10 @@ const ENDINGS: [(&str, &[&str], (u64, u64), (u8, &str)); 13] = [
     ("run twice", &["run", "run"], (0, 0), (2, USAGE)),
     ("a failing usage line", &[], (0, 1), (2, "")),
     ("a failing configuration", &["run"], (1, 0), (5, READ)),
-    ("a failing folder", &["run"], (2, 0), (5, READ)),
-    ("a failing mail", &["run"], (3, 0), (5, READ)),
-    ("no fourth call", &["run"], (4, 0), (0, DEPOSITED)),
+    ("a failing table of answers", &["run"], (2, 0), (5, READ)),
+    ("a failing folder", &["run"], (3, 0), (5, READ)),
+    ("a failing mail", &["run"], (4, 0), (5, READ)),
+    ("no fifth call", &["run"], (5, 0), (0, DEPOSITED)),
     ("a failing report", &["run"], (0, 1), (6, "")),
 ];
 
@@ -177,7 +190,7 @@ fn tells_what_failed(rt: HostRuntime) -> Result<(), Fail> {
     Ok(())
 }
 
-/// Whether the configuration is refused before the folder is listed, which would fail.
+/// Whether the configuration is refused before the table of answers is read, which would fail.
 fn is_refused_first(alloc: Global, configuration: &str, line: &str) -> Result<bool, Memory> {
     let mut files = folder(alloc, configuration, ("", ""), 2)?;
     ends(alloc, &["run"], &mut files, 0, (3, line))
@@ -213,7 +226,7 @@ fn report_ends_with(alloc: Global, letters: usize, call: u64, end: &str) -> Resu
 const NAMES: [(usize, u64, &str); 3] = [
     (4091, 0, " ann@example.org 23\n"),
     (4092, 0, "aaa.mail LongName\n"),
-    (4092, 3, "aaa.mail LongName\n"),
+    (4092, 4, "aaa.mail LongName\n"),
 ];
 
 #[test]

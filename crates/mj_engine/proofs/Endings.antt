@@ -5,15 +5,15 @@ use Rattle.std.proofs.Math.Seq.{take-length}
 use Rattle.std.proofs.Math.Bool.{or-false}
 use Rattle.std.proofs.lemmas.Bool.{eqb-true}
 use Rattle.std.proofs.lemmas.Option.{IfSome_then}
-use Rattle.mj_config_walk.specs.declared.fault.PlanFault.{PlanFault}
-use Rattle.mj_config_walk.specs.declared.fault.PlanFault.TheVariants as fault
+use Rattle.mj_answers.specs.declared.fault.AnswersKind.{AnswersKind}
 use Rattle.mj_config_walk.specs.declared.fault.PlanKind.{PlanKind}
-use Rattle.mj_plan.specs.declared.plan.Plan.{Plan}
 use Rattle.mj_io.specs.Grown.{grown}
-use Rattle.mj_report.specs.Faults.{config_line, read_line, usage_line}
-use Rattle.mj_engine.specs.Run.{output, plan_in}
+use Rattle.mj_report.specs.Faults.{answers_line, config_line, read_line, usage_line}
+use Rattle.mj_engine.specs.declared.run.RunFault.{RunFault}
+use Rattle.mj_engine.specs.declared.run.RunFault.TheVariants as fault
+use Rattle.mj_engine.specs.Run.{Site, output, site_in}
 use Rattle.mj_engine.specs.Ends.{ends_of_run, GrowsByFront, GrowsByLine}
-use Rattle.mj_engine.specs.Top.{Call, Rises, IsFaultLine, Gains, Runs, is_run, is_status, has_begun, is_one_of}
+use Rattle.mj_engine.specs.Top.{Call, HasRefusedAnswers, IsRefused, Rises, IsFaultLine, Gains, Runs, is_run, is_status, has_begun, is_one_of}
 
 -- nothing more is nothing gained
 grown_nothing : (old : Option (List ℕ)) → old ≡ grown old []
@@ -40,8 +40,8 @@ with_line call status line early undone is grows = record {
   whole_line = grows.2;
 }
 
-no_line : (files : Option (List (List ℕ × List ℕ))) (status : ℕ) → (status ≡ 2 → ⊥) → (status ≡ 3 → ⊥) → (status ≡ 5 → ⊥) → IsFaultLine files status []
-no_line files status a b c = record { usage = λ e. absurd (a e); config = λ e. absurd (b e); read = λ e. absurd (c e); none = λ _. refl }
+no_line : (files : Option (List (List ℕ × List ℕ))) (status : ℕ) → (status ≡ 2 → ⊥) → (status ≡ 3 → ⊥) → (status ≡ 4 → ⊥) → (status ≡ 5 → ⊥) → IsFaultLine files status []
+no_line files status a b c d = record { usage = λ e. absurd (a e); config = λ e. absurd (b e); answers = λ e. absurd (c e); read = λ e. absurd (d e); none = λ _. refl }
 
 -- a front of the text and no line
 with_text : (call : Call) (status : ℕ) (text : List ℕ) (k : ℕ) → has_begun status ≡ true → IsFaultLine call.files.before status []
@@ -70,13 +70,13 @@ nothing call e = record {
   is_text = λ e. absurd cc;
   whole_text = λ _. refl;
   no_text = λ _. refl;
-  is_line = no_line call.files.before 12 (λ e. absurd cc) (λ e. absurd cc) (λ e. absurd cc);
+  is_line = no_line call.files.before 12 (λ e. absurd cc) (λ e. absurd cc) (λ e. absurd cc) (λ e. absurd cc);
   whole_line = λ _. refl;
 }
 
 -- the ends of a run whose words are taken, one by one
 abbrev End : ℕ → Type 0
-End status = (status ≡ 0) ⊎ ((status ≡ 3) ⊎ ((status ≡ 5) ⊎ ((status ≡ 6) ⊎ (status ≡ 12))))
+End status = (status ≡ 0) ⊎ ((status ≡ 3) ⊎ ((status ≡ 4) ⊎ ((status ≡ 5) ⊎ ((status ≡ 6) ⊎ (status ≡ 12)))))
 
 one_or : (k status : ℕ) (b rest : Bool) {T : Type 0} → (k == status) ≡ b → (b || rest) ≡ true → (rest ≡ true → T) → (status ≡ k) ⊎ T
 one_or k status true rest e h more = inl (sym (eqb-true k status e))
@@ -87,49 +87,56 @@ last_one k status h = sym (eqb-true k status (sym (or-false (k == status)) ∙ h
 
 end_of : (status : ℕ) → is_one_of ends_of_run status ≡ true → End status
 end_of s h =
-    one_or 0 s (0 == s) (is_one_of (3 ∷ 5 ∷ 6 ∷ 12 ∷ []) s) refl h (λ h.
-    one_or 3 s (3 == s) (is_one_of (5 ∷ 6 ∷ 12 ∷ []) s) refl h (λ h.
+    one_or 0 s (0 == s) (is_one_of (3 ∷ 4 ∷ 5 ∷ 6 ∷ 12 ∷ []) s) refl h (λ h.
+    one_or 3 s (3 == s) (is_one_of (4 ∷ 5 ∷ 6 ∷ 12 ∷ []) s) refl h (λ h.
+    one_or 4 s (4 == s) (is_one_of (5 ∷ 6 ∷ 12 ∷ []) s) refl h (λ h.
     one_or 5 s (5 == s) (is_one_of (6 ∷ 12 ∷ []) s) refl h (λ h.
     one_or 6 s (6 == s) (is_one_of (12 ∷ []) s) refl h (λ h.
-    last_one 12 s h))))
+    last_one 12 s h)))))
 
--- a plan that is taken and files and a sink that didn't fail leave two ends: done, and want of memory
-abbrev Refused : Option (List (List ℕ × List ℕ)) → Type 0
-Refused files = IfSome files (λ told. (fault : PlanFault) × (plan_in told ≡ Err fault))
-
+-- a site that is taken and files and a sink that didn't fail leave two ends: done, and want of memory
 abbrev Done : Option (List (List ℕ × List ℕ)) → ℕ → Type 0
-Done files status = IfSome files (λ told. (plan : Plan) → plan_in told ≡ Ok plan → (status ≡ 0) ⊎ (status ≡ 12))
+Done files status = IfSome files (λ told. (site : Site) → site_in told ≡ Ok site → (status ≡ 0) ⊎ (status ≡ 12))
 
-clash : {T : Type 0} (told : List (List ℕ × List ℕ)) (plan : Plan) (fault : PlanFault) → plan_in told ≡ Ok plan → plan_in told ≡ Err fault → T
-clash told plan fault taken refused = absurd cc
+clash : {T : Type 0} (told : List (List ℕ × List ℕ)) (site : Site) (fault : RunFault) → site_in told ≡ Ok site → site_in told ≡ Err fault → T
+clash told site fault taken refused = absurd cc
 
-done_of : (files : Option (List (List ℕ × List ℕ))) (status : ℕ) → End status → (status ≡ 3 → Refused files) → (status ≡ 5 → ⊥) → (status ≡ 6 → ⊥) → Done files status
-done_of None status end refused read wrote = tt
-done_of (Some told) status (inl e) refused read wrote = λ plan taken. inl e
-done_of (Some told) status (inr (inl e)) refused read wrote = λ plan taken. clash told plan (refused e).0 taken (refused e).1
-done_of (Some told) status (inr (inr (inl e))) refused read wrote = λ plan taken. absurd (read e)
-done_of (Some told) status (inr (inr (inr (inl e)))) refused read wrote = λ plan taken. absurd (wrote e)
-done_of (Some told) status (inr (inr (inr (inr e)))) refused read wrote = λ plan taken. inr e
+done_of : (files : Option (List (List ℕ × List ℕ))) (status : ℕ) → End status → (status ≡ 3 → IfSome files IsRefused) → (status ≡ 4 → IfSome files HasRefusedAnswers)
+    → (status ≡ 5 → ⊥) → (status ≡ 6 → ⊥) → Done files status
+done_of None status end refused answers read wrote = tt
+done_of (Some told) status (inl e) refused answers read wrote = λ site taken. inl e
+done_of (Some told) status (inr (inl e)) refused answers read wrote = λ site taken. (let r = refused e in clash told site (fault.Configuration r.0 r.1 r.2) taken r.3)
+done_of (Some told) status (inr (inr (inl e))) refused answers read wrote = λ site taken. (let r = answers e in clash told site (fault.Answers r.0 r.1) taken r.2)
+done_of (Some told) status (inr (inr (inr (inl e)))) refused answers read wrote = λ site taken. absurd (read e)
+done_of (Some told) status (inr (inr (inr (inr (inl e))))) refused answers read wrote = λ site taken. absurd (wrote e)
+done_of (Some told) status (inr (inr (inr (inr (inr e))))) refused answers read wrote = λ site taken. inr e
 
--- the fault alone, of a fault with its place
+-- that the configuration is refused, by its fault; and that the table is
 refused_by : (files : Option (List (List ℕ × List ℕ))) (kind : PlanKind) (processor step : ℕ)
-    → IfSome files (λ told. plan_in told ≡ Err (fault.Refused kind processor step)) → Refused files
+    → IfSome files (λ told. site_in told ≡ Err (fault.Configuration kind processor step)) → IfSome files IsRefused
 refused_by None kind processor step e = tt
-refused_by (Some told) kind processor step e = (fault.Refused kind processor step, e)
+refused_by (Some told) kind processor step e = (kind, processor, step, e)
+
+answers_by : (files : Option (List (List ℕ × List ℕ))) (kind : AnswersKind) (row : ℕ)
+    → IfSome files (λ told. site_in told ≡ Err (fault.Answers kind row)) → IfSome files HasRefusedAnswers
+answers_by None kind row e = tt
+answers_by (Some told) kind row e = (kind, row, e)
 
 is_known : (status : ℕ) → End status → is_status status ≡ true
 is_known status (inl e) = rw e
 is_known status (inr (inl e)) = rw e
 is_known status (inr (inr (inl e))) = rw e
 is_known status (inr (inr (inr (inl e)))) = rw e
-is_known status (inr (inr (inr (inr e)))) = rw e
+is_known status (inr (inr (inr (inr (inl e))))) = rw e
+is_known status (inr (inr (inr (inr (inr e))))) = rw e
 
 not_usage : (status : ℕ) → End status → status ≡ 2 → ⊥
 not_usage status (inl e) u = absurd cc
 not_usage status (inr (inl e)) u = absurd cc
 not_usage status (inr (inr (inl e))) u = absurd cc
 not_usage status (inr (inr (inr (inl e)))) u = absurd cc
-not_usage status (inr (inr (inr (inr e)))) u = absurd cc
+not_usage status (inr (inr (inr (inr (inl e))))) u = absurd cc
+not_usage status (inr (inr (inr (inr (inr e))))) u = absurd cc
 
 -- a run whose words are taken
 module _ (call : Call) where
@@ -141,23 +148,30 @@ module _ (call : Call) where
 
   abbrev Config : Type 0
   Config = (kind : PlanKind) × (processor : ℕ) × (step : ℕ)
-      × IfSome call.files.before (λ told. plan_in told ≡ Err (fault.Refused kind processor step)) × Line (config_line kind processor step)
+      × IfSome call.files.before (λ told. site_in told ≡ Err (fault.Configuration kind processor step)) × Line (config_line kind processor step)
+
+  abbrev Table : Type 0
+  Table = (kind : AnswersKind) × (row : ℕ) × IfSome call.files.before (λ told. site_in told ≡ Err (fault.Answers kind row)) × Line (answers_line kind row)
 
   gains_at_0 : Front (λ text. call.bytes.after ≡ grown call.bytes.before text) → Gains call 0
   gains_at_0 h =
       let text = h.0 in
-      with_text call 0 text (length text) refl (no_line call.files.before 0 (λ e. absurd cc) (λ e. absurd cc) (λ e. absurd cc)) h.1
+      with_text call 0 text (length text) refl (no_line call.files.before 0 (λ e. absurd cc) (λ e. absurd cc) (λ e. absurd cc) (λ e. absurd cc)) h.1
       (rw (take-length text) h.2) (λ _. take-length text)
 
   gains_at_6 : Front (λ text. GrowsByFront call.bytes.before call.bytes.after text) → Gains call 6
-  gains_at_6 h = with_text call 6 h.0 h.2.0 refl (no_line call.files.before 6 (λ e. absurd cc) (λ e. absurd cc) (λ e. absurd cc)) h.1 h.2.1 (λ e. absurd cc)
+  gains_at_6 h = with_text call 6 h.0 h.2.0 refl (no_line call.files.before 6 (λ e. absurd cc) (λ e. absurd cc) (λ e. absurd cc) (λ e. absurd cc)) h.1 h.2.1 (λ e. absurd cc)
 
   gains_at_5 : Line read_line → Gains call 5
-  gains_at_5 h = with_line call 5 read_line refl (λ e. absurd cc) (record { usage = λ e. absurd cc; config = λ e. absurd cc; read = λ _. refl; none = λ e. absurd cc }) h
+  gains_at_5 h = with_line call 5 read_line refl (λ e. absurd cc) (record { usage = λ e. absurd cc; config = λ e. absurd cc; answers = λ e. absurd cc; read = λ _. refl; none = λ e. absurd cc }) h
 
   gains_at_3 : Config → Gains call 3
   gains_at_3 h = with_line call 3 (config_line h.0 h.1 h.2) refl (λ e. absurd cc)
-      (record { usage = λ e. absurd cc; config = λ _. (h.0, h.1, h.2, h.3, refl); read = λ e. absurd cc; none = λ e. absurd cc }) h.4
+      (record { usage = λ e. absurd cc; config = λ _. (h.0, h.1, h.2, h.3, refl); answers = λ e. absurd cc; read = λ e. absurd cc; none = λ e. absurd cc }) h.4
+
+  gains_at_4 : Table → Gains call 4
+  gains_at_4 h = with_line call 4 (answers_line h.0 h.1) refl (λ e. absurd cc)
+      (record { usage = λ e. absurd cc; config = λ e. absurd cc; answers = λ _. (h.0, h.1, h.2, refl); read = λ e. absurd cc; none = λ e. absurd cc }) h.3
 
   at : (k status : ℕ) → status ≡ k → Gains call k → Gains call status
   at k status e gains = subst (Gains call) (sym e) gains
@@ -165,34 +179,39 @@ module _ (call : Call) where
   gains_of : (status : ℕ)
       → (status ≡ 0 → Front (λ text. call.bytes.after ≡ grown call.bytes.before text))
       → (status ≡ 6 → Front (λ text. GrowsByFront call.bytes.before call.bytes.after text))
-      → (status ≡ 3 → Config) → (status ≡ 5 → Line read_line) → (status ≡ 12 → call.bytes.after ≡ call.bytes.before)
+      → (status ≡ 3 → Config) → (status ≡ 4 → Table) → (status ≡ 5 → Line read_line) → (status ≡ 12 → call.bytes.after ≡ call.bytes.before)
       → End status → Gains call status
-  gains_of status report front config read none (inl e) = at 0 status e (gains_at_0 (report e))
-  gains_of status report front config read none (inr (inl e)) = at 3 status e (gains_at_3 (config e))
-  gains_of status report front config read none (inr (inr (inl e))) = at 5 status e (gains_at_5 (read e))
-  gains_of status report front config read none (inr (inr (inr (inl e)))) = at 6 status e (gains_at_6 (front e))
-  gains_of status report front config read none (inr (inr (inr (inr e)))) = at 12 status e (nothing call (none e))
+  gains_of status report front config table read none (inl e) = at 0 status e (gains_at_0 (report e))
+  gains_of status report front config table read none (inr (inl e)) = at 3 status e (gains_at_3 (config e))
+  gains_of status report front config table read none (inr (inr (inl e))) = at 4 status e (gains_at_4 (table e))
+  gains_of status report front config table read none (inr (inr (inr (inl e)))) = at 5 status e (gains_at_5 (read e))
+  gains_of status report front config table read none (inr (inr (inr (inr (inl e))))) = at 6 status e (gains_at_6 (front e))
+  gains_of status report front config table read none (inr (inr (inr (inr (inr e))))) = at 12 status e (nothing call (none e))
 
   pub run_ends : (status : ℕ) → is_run call.words ≡ true → is_one_of ends_of_run status ≡ true
-      → IfSome call.files.before (λ told. (fault : PlanFault) → plan_in told ≡ Err fault → (status ≡ 3) ⊎ ((status ≡ 5) ⊎ (status ≡ 12)))
+      → IfSome call.files.before (λ told. IsRefused told → (status ≡ 3) ⊎ ((status ≡ 5) ⊎ (status ≡ 12)))
+      → IfSome call.files.before (λ told. HasRefusedAnswers told → (status ≡ 4) ⊎ ((status ≡ 5) ⊎ (status ≡ 12)))
       → (status ≡ 5 → Rises call.file_faults) → (status ≡ 6 → Rises call.sink_faults)
       → (status ≡ 0 → Front (λ text. call.bytes.after ≡ grown call.bytes.before text))
       → (status ≡ 6 → Front (λ text. GrowsByFront call.bytes.before call.bytes.after text))
-      → (status ≡ 3 → Config) → (status ≡ 5 → Line read_line) → (status ≡ 12 → call.bytes.after ≡ call.bytes.before)
+      → (status ≡ 3 → Config) → (status ≡ 4 → Table) → (status ≡ 5 → Line read_line) → (status ≡ 12 → call.bytes.after ≡ call.bytes.before)
       → call.files.after ≡ call.files.before → call.file_faults.before ≤ call.file_faults.after → call.sink_faults.before ≤ call.sink_faults.after
       → Runs call status
-  run_ends status is known configuration read write report front config read_text none same files_later sink_later =
+  run_ends status is known configuration answers read write report front config table read_text none same files_later sink_later =
       let end = end_of status known in
-      let refused : status ≡ 3 → Refused call.files.before = λ e. (let h = config e in refused_by call.files.before h.0 h.1 h.2 h.3) in
+      let refused : status ≡ 3 → IfSome call.files.before IsRefused = λ e. (let h = config e in refused_by call.files.before h.0 h.1 h.2 h.3) in
+      let refused_answers : status ≡ 4 → IfSome call.files.before HasRefusedAnswers = λ e. (let h = table e in answers_by call.files.before h.0 h.1 h.2) in
       record {
         known = is_known status end;
         words = (λ e. absurd (not_usage status end e), λ e. absurd cc);
         refused = refused;
-        configuration = IfSome_then call.files.before configuration (λ told h fault e _. h fault e);
+        configuration = IfSome_then call.files.before configuration (λ told h refused _. h refused);
+        refused_answers = refused_answers;
+        answers = IfSome_then call.files.before answers (λ told h refused _. h refused);
         read = read;
         write = write;
-        done = λ no_read no_write _. done_of call.files.before status end refused (λ e. no_read (read e)) (λ e. no_write (write e));
-        gains = gains_of status report front config read_text none end;
+        done = λ no_read no_write _. done_of call.files.before status end refused refused_answers (λ e. no_read (read e)) (λ e. no_write (write e));
+        gains = gains_of status report front config table read_text none end;
         same_files = same;
         files_later = files_later;
         sink_later = sink_later;
@@ -206,12 +225,14 @@ usage_ends call is grows same files_later sink_later = record {
   known = refl;
   words = (λ _. is, λ _. refl);
   refused = λ e. absurd cc;
-  configuration = for_all call.files.before (λ told fault e taken. absurd cc);
+  configuration = for_all call.files.before (λ told refused taken. absurd cc);
+  refused_answers = λ e. absurd cc;
+  answers = for_all call.files.before (λ told refused taken. absurd cc);
   read = λ e. absurd cc;
   write = λ e. absurd cc;
-  done = λ no_read no_write taken. for_all call.files.before (λ told plan e. absurd cc);
+  done = λ no_read no_write taken. for_all call.files.before (λ told site e. absurd cc);
   gains = with_line call 2 usage_line refl (λ e. absurd cc)
-      (record { usage = λ _. refl; config = λ e. absurd cc; read = λ e. absurd cc; none = λ e. absurd cc }) grows;
+      (record { usage = λ _. refl; config = λ e. absurd cc; answers = λ e. absurd cc; read = λ e. absurd cc; none = λ e. absurd cc }) grows;
   same_files = same;
   files_later = files_later;
   sink_later = sink_later;

@@ -1,4 +1,3 @@
-pub mod Built
 pub mod Carried
 pub mod Endings
 pub mod Fronts

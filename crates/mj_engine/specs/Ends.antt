@@ -5,7 +5,7 @@ use Rattle.mj_io.specs.Grown.{grown}
 
 -- the statuses of a run whose words are taken
 abbrev pub ends_of_run : List ℕ
-ends_of_run = 0 ∷ 3 ∷ 5 ∷ 6 ∷ 12 ∷ []
+ends_of_run = 0 ∷ 3 ∷ 4 ∷ 5 ∷ 6 ∷ 12 ∷ []
 
 -- a sink's bytes grew by a front of the text
 abbrev pub GrowsByFront : Option (List ℕ) → Option (List ℕ) → List ℕ → Type 0

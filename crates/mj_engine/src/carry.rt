@@ -7,7 +7,7 @@ ghost use Rattle.mj_mail.specs.Rules.{is_acceptable, step_by};
 ghost use Rattle.mj_report.specs.Facts.{fact_line};
 
 use mj_fields::{Bytes, Items, Memory};
-use mj_mail::{Mail, Name, NewMail, Outcome, Rules};
+use mj_mail::{Mail, Name, NewMail, Outcome, Rules, replies_to};
 use mj_report::put_fact_lines;
 use std::alloc::Global;
 
@@ -22,7 +22,7 @@ pub fn put_mail<R: Rules>(
 ) -> Result<(), Memory>
     requires { is_acceptable mail ≡ true }
     ensures { OnOk result (out.new ≡ out.old
-        ++ flat_map fact_line (tree R.measure (step_by R.is_sound R.replies_to R.outcome_of rules.now) (R.first_of rules.now number mail))) }
+        ++ flat_map fact_line (tree R.measure (step_by R.is_sound R.reply_of R.outcome_of rules.now) (R.first_of rules.now number mail))) }
 {
     let first = rules.first(alloc, number, &mail)?;
     drop(mail);
@@ -33,7 +33,7 @@ pub fn put_mail<R: Rules>(
 fn carry<R: Rules>(alloc: Global, out: &mut Bytes, rules: &R, mail: Mail) -> Result<(), Memory>
     requires { R.is_sound rules.now mail ≡ true }
     ensures { OnOk result (out.new ≡ out.old
-        ++ flat_map fact_line (tree R.measure (step_by R.is_sound R.replies_to R.outcome_of rules.now) mail)) }
+        ++ flat_map fact_line (tree R.measure (step_by R.is_sound R.reply_of R.outcome_of rules.now) mail)) }
 {
     let mut waiting = Items::new(alloc);
     waiting.push(mail)?;
@@ -55,9 +55,9 @@ fn take_step<R: Rules>(
 ) -> Result<(), Memory>
     requires { R.is_sound rules.now mail.now ≡ true }
     ensures lines { OnOk result (out.new ≡ out.old
-        ++ flat_map fact_line (facts_of (step_by R.is_sound R.replies_to R.outcome_of rules.now) mail.now)) }
+        ++ flat_map fact_line (facts_of (step_by R.is_sound R.reply_of R.outcome_of rules.now) mail.now)) }
     ensures waiting { OnOk result (waiting.new ≡ waiting.old
-        ++ reverse (step_by R.is_sound R.replies_to R.outcome_of rules.now mail.now).children) }
+        ++ reverse (step_by R.is_sound R.reply_of R.outcome_of rules.now mail.now).children) }
 {
     let outcome = outcome_of(alloc, rules, mail)?;
     put_outcome(alloc, out, &mail.name, outcome, waiting)
@@ -66,9 +66,9 @@ fn take_step<R: Rules>(
 /// What one step makes of a mail.
 fn outcome_of<R: Rules>(alloc: Global, rules: &R, mail: &Mail) -> Result<Outcome, Memory>
     requires { R.is_sound rules.now mail.now ≡ true }
-    ensures { IfOk result (λ outcome. outcome ≡ step_by R.is_sound R.replies_to R.outcome_of rules.now mail.now) }
+    ensures { IfOk result (λ outcome. outcome ≡ step_by R.is_sound R.reply_of R.outcome_of rules.now mail.now) }
 {
-    let replies = rules.replies(alloc, mail)?;
+    let replies = replies_to(alloc, rules, mail)?;
     let outcome = rules.step(alloc, mail, &replies)?;
     Ok(outcome)
 }

@@ -1,27 +1,33 @@
-ghost use Rattle.std.specs.Prelude.{◌≡◌, ◌≤◌, ◌<◌, ◌+◌, ◌^◌, [], length, slice_get, true, Some, Ok, IfOk, IfSome, IsErrOf, OnOk};
+ghost use Rattle.std.specs.Prelude.{◌≡◌, ◌≤◌, ◌<◌, ◌+◌, ◌^◌, [], length, slice_get, true, Some, Ok, Err, IfOk, IfErr, IfSome, IsErrOf, OnOk};
 ghost use Rattle.std.specs.List.{list_all};
 ghost use Rattle.std.specs.Str.{is_utf8};
 ghost use Rattle.mj_terms.specs.Causes.{HasCause};
 ghost use Rattle.mj_io.specs.Folder.{names_in};
+ghost use Rattle.mj_answers.specs.Places.{has_reply};
 ghost use Rattle.mj_mail.specs.Rules.{is_acceptable};
-ghost use Rattle.mj_engine.specs.Config.{configuration, plan_room as room_of_plan};
+ghost use Rattle.mj_plan.specs.Sound.{IsSound};
+ghost use Rattle.mj_engine.specs.Config.{answers_room as room_of_answers, configuration, plan_room as room_of_plan, table};
 ghost use Rattle.mj_engine.specs.Intake.{folder, mail_room as room_of_mail};
-ghost use Rattle.mj_engine.specs.Run.{GivesOutput, GivesRules, output, plan_in, report, with_found, with_name, with_names, empty_report};
+ghost use Rattle.mj_engine.specs.Run.{GivesAnswers, GivesOutput, GivesPlan, GivesRules, answers_in, output, plan_in, plan_or, report, rows_or, site_in, site_of, with_found, with_name, with_names, empty_report};
 
 use crate::carry::put_mail;
-use crate::config::read_configuration;
+use crate::config::{read_answers, read_configuration};
 use crate::intake::{is_mail_name, judge};
 use crate::report::Report;
+use mj_answers::{Answers, AnswersFault, AnswersKind, MAX_ANSWERS};
 use mj_config::{MAX_CONFIGURATION, PlanFault, PlanKind};
 use mj_fields::{Bytes, Memory};
 use mj_io::{Files, FilesError};
 use mj_mail::NewMail;
 use mj_mailfile::MAX_FILE;
+use mj_plan::Plan;
 use mj_report::{Refusal, put_refused_line};
 use mj_step::JamesRules;
 use std::alloc::Global;
 
 const CONFIGURATION: &str = "conf/mailetcontainer.toml";
+
+const ANSWERS: &str = "conf/answers.toml";
 
 const FOLDER: &str = "mails";
 
@@ -29,10 +35,15 @@ const FOLDER: &str = "mails";
 #[derive(Clone, Copy, Debug, PartialEq, Eq)]
 pub enum RunFault {
     /// The configuration is missing or refused, with this fault at this step of this processor.
-    Refused {
+    Configuration {
         kind: PlanKind,
         processor: u32,
         step: u32,
+    },
+    /// The table of answers is refused, with this fault in this row.
+    Answers {
+        kind: AnswersKind,
+        row: u32,
     },
     /// The files failed.
     Read,
@@ -71,13 +82,13 @@ pub fn run<F: Files>(alloc: Global, files: &mut F) -> Result<Bytes, RunFault>
     ensures same { F.told files.new ≡ F.told files.old }
     ensures cause { HasCause RunFault.Read (F.faults files.old) (F.faults files.new) result }
 {
-    let rules = load_rules(alloc, files, plan_room())?;
+    let rules = load_rules(alloc, files)?;
     report_by(alloc, files, &rules)
 }
 
 /// The report of the mails of the folder by these rules.
 fn report_by<F: Files>(alloc: Global, files: &mut F, rules: &JamesRules) -> Result<Bytes, RunFault>
-    ensures exact { IfSome (F.told files.old) (λ told. GivesOutput result (Ok (report rules.now.plan told))) }
+    ensures exact { IfSome (F.told files.old) (λ told. GivesOutput result (Ok (report (site_of rules.now) told))) }
     ensures same { F.told files.new ≡ F.told files.old }
     ensures cause { HasCause RunFault.Read (F.faults files.old) (F.faults files.new) result }
 {
@@ -85,18 +96,44 @@ fn report_by<F: Files>(alloc: Global, files: &mut F, rules: &JamesRules) -> Resu
     Ok(report.into_text()?)
 }
 
-fn load_rules<F: Files>(alloc: Global, files: &mut F, room: usize) -> Result<JamesRules, RunFault>
+/// The rules that the files say: the configuration, and then the table of answers.
+fn load_rules<F: Files>(alloc: Global, files: &mut F) -> Result<JamesRules, RunFault>
+    ensures exact { IfSome (F.told files.old) (λ told. GivesRules result (site_in told)) }
+    ensures same { F.told files.new ≡ F.told files.old }
+    ensures cause { HasCause RunFault.Read (F.faults files.old) (F.faults files.new) result }
+{
+    let plan = load_plan(alloc, files, plan_room())?;
+    let answers = load_answers(alloc, files, answers_room());
+    rules_of(plan, answers)
+}
+
+/// The rules of a plan and of a table, or the fault in place of the table.
+fn rules_of(plan: Plan, answers: Result<Answers, RunFault>) -> Result<JamesRules, RunFault>
+    requires sound { IsSound plan }
+    requires formed { IfOk answers (λ answers. list_all has_reply answers ≡ true) }
+    ensures ok { IfOk result (λ rules. (rules.plan ≡ plan) × (answers ≡ Ok rules.answers)) }
+    ensures err { IfErr result (λ fault. answers ≡ Err fault) }
+{
+    match answers {
+        Ok(answers) => Ok(JamesRules { plan, answers }),
+        Err(fault) => Err(fault),
+    }
+}
+
+fn load_plan<F: Files>(alloc: Global, files: &mut F, room: usize) -> Result<Plan, RunFault>
     requires { room ≡ room_of_plan }
-    ensures exact { IfSome (F.told files.old) (λ told. GivesRules result (plan_in told)) }
+    ensures exact { IfSome (F.told files.old) (λ told. GivesPlan result (plan_or (plan_in told))) }
+    ensures sound { IfOk result IsSound }
     ensures same { F.told files.new ≡ F.told files.old }
     ensures cause { HasCause RunFault.Read (F.faults files.old) (F.faults files.new) result }
 {
     let file = files.read(alloc, CONFIGURATION, room)?;
-    rules_of_file(alloc, file)
+    plan_of_file(alloc, file)
 }
 
-fn rules_of_file(alloc: Global, file: Option<Bytes>) -> Result<JamesRules, RunFault>
-    ensures exact { GivesRules result (configuration file) }
+fn plan_of_file(alloc: Global, file: Option<Bytes>) -> Result<Plan, RunFault>
+    ensures exact { GivesPlan result (plan_or (configuration file)) }
+    ensures sound { IfOk result IsSound }
     ensures cause { IsErrOf result RunFault.Read → ⊥ }
 {
     let plan = match file {
@@ -104,14 +141,14 @@ fn rules_of_file(alloc: Global, file: Option<Bytes>) -> Result<JamesRules, RunFa
         Some(bytes) => read_configuration(alloc, Some(bytes.as_slice())),
     };
     match plan {
-        Ok(plan) => Ok(JamesRules { plan }),
+        Ok(plan) => Ok(plan),
         Err(
             PlanFault::Refused {
                 kind,
                 processor,
                 step,
             },
-        ) => Err(RunFault::Refused {
+        ) => Err(RunFault::Configuration {
             kind,
             processor,
             step,
@@ -120,9 +157,36 @@ fn rules_of_file(alloc: Global, file: Option<Bytes>) -> Result<JamesRules, RunFa
     }
 }
 
+fn load_answers<F: Files>(alloc: Global, files: &mut F, room: usize) -> Result<Answers, RunFault>
+    requires { room ≡ room_of_answers }
+    ensures exact { IfSome (F.told files.old) (λ told. GivesAnswers result (rows_or (answers_in told))) }
+    ensures formed { IfOk result (λ answers. list_all has_reply answers ≡ true) }
+    ensures same { F.told files.new ≡ F.told files.old }
+    ensures cause { HasCause RunFault.Read (F.faults files.old) (F.faults files.new) result }
+{
+    let file = files.read(alloc, ANSWERS, room)?;
+    answers_of_file(alloc, file)
+}
+
+fn answers_of_file(alloc: Global, file: Option<Bytes>) -> Result<Answers, RunFault>
+    ensures exact { GivesAnswers result (rows_or (table file)) }
+    ensures formed { IfOk result (λ answers. list_all has_reply answers ≡ true) }
+    ensures cause { IsErrOf result RunFault.Read → ⊥ }
+{
+    let answers = match file {
+        None => read_answers(alloc, None),
+        Some(bytes) => read_answers(alloc, Some(bytes.as_slice())),
+    };
+    match answers {
+        Ok(answers) => Ok(answers),
+        Err(AnswersFault::Refused { kind, row }) => Err(RunFault::Answers { kind, row }),
+        Err(AnswersFault::Memory) => Err(RunFault::Memory),
+    }
+}
+
 /// The report of all names of the folder.
 fn take_in<F: Files>(alloc: Global, files: &mut F, rules: &JamesRules) -> Result<Report, FilesError>
-    ensures exact { IfSome (F.told files.old) (λ told. IfOk result (λ report. report ≡ with_names rules.now.plan told (names_in folder told) empty_report)) }
+    ensures exact { IfSome (F.told files.old) (λ told. IfOk result (λ report. report ≡ with_names (site_of rules.now) told (names_in folder told) empty_report)) }
     ensures same { F.told files.new ≡ F.told files.old }
     ensures cause { HasCause FilesError.Failed (F.faults files.old) (F.faults files.new) result }
 {
@@ -137,7 +201,7 @@ fn take_names<F: Files>(
     names: &[Bytes],
 ) -> Result<Report, FilesError>
     requires { list_all is_utf8 names.now ≡ true }
-    ensures exact { IfSome (F.told files.old) (λ told. IfOk result (λ report. report ≡ with_names rules.now.plan told names.now empty_report)) }
+    ensures exact { IfSome (F.told files.old) (λ told. IfOk result (λ report. report ≡ with_names (site_of rules.now) told names.now empty_report)) }
     ensures same { F.told files.new ≡ F.told files.old }
     ensures cause { HasCause FilesError.Failed (F.faults files.old) (F.faults files.new) result }
 {
@@ -167,7 +231,7 @@ fn take_name<F: Files>(
     report: &mut Report,
 ) -> Result<(), FilesError>
     requires { report.old.accepted < 2 ^ 63 }
-    ensures exact { IfSome (F.told files.old) (λ told. OnOk result (report.new ≡ with_name rules.now.plan told report.old name.now)) }
+    ensures exact { IfSome (F.told files.old) (λ told. OnOk result (report.new ≡ with_name (site_of rules.now) told report.old name.now)) }
     ensures count { OnOk result (report.new.accepted ≤ report.old.accepted + 1) }
     ensures same { F.told files.new ≡ F.told files.old }
     ensures cause { HasCause FilesError.Failed (F.faults files.old) (F.faults files.new) result }
@@ -189,7 +253,7 @@ fn take_found(
 ) -> Result<(), Memory>
     requires room { report.old.accepted < 2 ^ 63 }
     requires acceptable { IfSome found (λ mail. IfOk mail (λ mail. is_acceptable mail ≡ true)) }
-    ensures exact { OnOk result (report.new ≡ with_found rules.now.plan name.now report.old found) }
+    ensures exact { OnOk result (report.new ≡ with_found (site_of rules.now) name.now report.old found) }
     ensures count { OnOk result (report.new.accepted ≤ report.old.accepted + 1) }
 {
     match found {
@@ -208,7 +272,7 @@ fn take_mail(
 ) -> Result<(), Memory>
     requires room { report.old.accepted < 2 ^ 63 }
     requires acceptable { is_acceptable mail ≡ true }
-    ensures exact { OnOk result (report.new ≡ with_found rules.now.plan [] report.old (Some (Ok mail))) }
+    ensures exact { OnOk result (report.new ≡ with_found (site_of rules.now) [] report.old (Some (Ok mail))) }
     ensures count { OnOk result (report.new.accepted ≤ report.old.accepted + 1) }
 {
     let number = report.accepted + 1;
@@ -223,6 +287,14 @@ fn plan_room() -> usize
     ensures { result ≡ room_of_plan }
 {
     MAX_CONFIGURATION + 1
+}
+
+/// How many bytes are read of a table of answers: one more than it may have.
+#[tactic(auto, unfolding(crate::specs::Config::answers_room))]
+fn answers_room() -> usize
+    ensures { result ≡ room_of_answers }
+{
+    MAX_ANSWERS + 1
 }
 
 /// How many bytes are read of a mail file: one more than it may have.

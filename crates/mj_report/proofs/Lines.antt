@@ -1,5 +1,5 @@
 -- Lists of lines, one more at a time.
-use Rattle.std.proofs.Common.{◌≡◌, ℕ, zero, suc, ◌+◌, ◌<◌, List, [], ◌∷◌, ◌++◌, length, take, drop, get_or, map, Some, refl, sym, ap, ◌∙◌, arith, add-one, append_assoc, append-nil}
+use Rattle.std.proofs.Common.{◌≡◌, ℕ, zero, suc, ◌+◌, List, [], ◌∷◌, ◌++◌, take, map, Some, sym, ap, add-one, append_assoc, append-nil}
 use Rattle.std.specs.List.{flat_map, enumerate_from, slice_get}
 use Rattle.mj_mail.specs.declared.fact.Fact.{Fact}
 use Rattle.mj_mail.specs.declared.name.Name.{Name}

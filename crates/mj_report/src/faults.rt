@@ -1,7 +1,8 @@
 //! Lines that say why a command wasn't done.
 ghost use Rattle.std.specs.Prelude.{◌≡◌, IfOk};
-ghost use Rattle.mj_report.specs.Faults.{config_line, fault_line as line_of_fault, kind_text, read_line as line_of_read, usage_line as line_of_usage};
+ghost use Rattle.mj_report.specs.Faults.{answers_kind_text, answers_line, config_line, fault_line as line_of_fault, kind_text, read_line as line_of_read, usage_line as line_of_usage};
 
+use mj_answers::AnswersKind;
 use mj_config_walk::PlanKind;
 use mj_fields::{Bytes, Memory};
 use mj_mail::put_number;
@@ -18,6 +19,11 @@ pub enum Fault {
         processor: u32,
         step: u32,
     },
+    /// The table of answers is refused, with this fault in this row; 0 where none is meant.
+    Answers {
+        kind: AnswersKind,
+        row: u32,
+    },
     /// A file or the folder couldn't be read.
     Read,
 }
@@ -33,6 +39,7 @@ pub fn fault_line(alloc: Global, fault: &Fault) -> Result<Bytes, Memory>
             processor,
             step,
         } => config_fault(alloc, kind, processor, step),
+        Fault::Answers { kind, row } => answers_fault(alloc, kind, row),
         Fault::Read => Bytes::from_slice(alloc, read_line()),
     }
 }
@@ -85,6 +92,30 @@ fn kind_name(kind: PlanKind) -> &'static [u8]
         PlanKind::UnknownProcessor => b"UnknownProcessor",
         PlanKind::TooDeep => b"TooDeep",
         PlanKind::TooMany => b"TooMany",
-        PlanKind::NotBuilt => b"NotBuilt",
+    }
+}
+
+fn answers_fault(alloc: Global, kind: AnswersKind, row: u32) -> Result<Bytes, Memory>
+    ensures { IfOk result (λ line. line ≡ answers_line kind row) }
+{
+    let mut line = Bytes::from_slice(alloc, b"fault answers ")?;
+    line.extend(answers_kind_name(kind))?;
+    line.push(b' ')?;
+    put_number(alloc, &mut line, u64::from(row))?;
+    line.push(b'\n')?;
+    Ok(line)
+}
+
+fn answers_kind_name(kind: AnswersKind) -> &'static [u8]
+    ensures { result.now ≡ answers_kind_text kind }
+{
+    match kind {
+        AnswersKind::TooLarge => b"TooLarge",
+        AnswersKind::NotToml => b"NotToml",
+        AnswersKind::TooMany => b"TooMany",
+        AnswersKind::WrongType => b"WrongType",
+        AnswersKind::BadHost => b"BadHost",
+        AnswersKind::BadAddress => b"BadAddress",
+        AnswersKind::BadReply => b"BadReply",
     }
 }

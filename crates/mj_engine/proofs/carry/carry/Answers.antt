@@ -17,10 +17,10 @@ loop-mail-preserved g c =
     let mail = c.in-Some.mail in
     let sound = g.R.Rules.is_sound rules in
     let falls = g.met.R.Rules.falls rules in
-    let step = step_by g.R.Rules.is_sound g.R.Rules.replies_to g.R.Rules.outcome_of rules in
+    let step = step_by g.R.Rules.is_sound g.R.Rules.reply_of g.R.Rules.outcome_of rules in
     let parts = last_sound sound c.loop-mail.waiting c.pop.new.self mail c.loop-mail.invariant.sound c.in-Some.ensures in
-    let is = step_is g.R.Rules.measure g.R.Rules.is_sound g.R.Rules.replies_to g.R.Rules.outcome_of rules falls mail parts.1 in
-    let t = turn g.R.Rules.measure step sound (rules_fall g.R.Rules.measure g.R.Rules.is_sound g.R.Rules.replies_to g.R.Rules.outcome_of rules falls) c.pop.new.self mail
+    let is = step_is g.R.Rules.measure g.R.Rules.is_sound g.R.Rules.reply_of g.R.Rules.outcome_of rules falls mail parts.1 in
+    let t = turn g.R.Rules.measure step sound (rules_fall g.R.Rules.measure g.R.Rules.is_sound g.R.Rules.reply_of g.R.Rules.outcome_of rules falls) c.pop.new.self mail
     (c.args.out.now ++ flat_map fact_line (tree g.R.Rules.measure step c.args.mail))
     c.loop-mail.out c.take_step-taken.new.out c.loop-mail.waiting c.take_step-taken.new.waiting parts.0
     (ap (λ o. list_all sound o.children) is ∙ g.met.R.Rules.children_sound rules mail parts.1)
@@ -33,10 +33,10 @@ loop-mail-smaller g c =
     let mail = c.in-Some.mail in
     let sound = g.R.Rules.is_sound rules in
     let falls = g.met.R.Rules.falls rules in
-    let step = step_by g.R.Rules.is_sound g.R.Rules.replies_to g.R.Rules.outcome_of rules in
+    let step = step_by g.R.Rules.is_sound g.R.Rules.reply_of g.R.Rules.outcome_of rules in
     let parts = last_sound sound c.loop-mail.waiting c.pop.new.self mail c.loop-mail.invariant.sound c.in-Some.ensures in
-    let is = step_is g.R.Rules.measure g.R.Rules.is_sound g.R.Rules.replies_to g.R.Rules.outcome_of rules falls mail parts.1 in
-    let t = turn g.R.Rules.measure step sound (rules_fall g.R.Rules.measure g.R.Rules.is_sound g.R.Rules.replies_to g.R.Rules.outcome_of rules falls) c.pop.new.self mail
+    let is = step_is g.R.Rules.measure g.R.Rules.is_sound g.R.Rules.reply_of g.R.Rules.outcome_of rules falls mail parts.1 in
+    let t = turn g.R.Rules.measure step sound (rules_fall g.R.Rules.measure g.R.Rules.is_sound g.R.Rules.reply_of g.R.Rules.outcome_of rules falls) c.pop.new.self mail
     (c.args.out.now ++ flat_map fact_line (tree g.R.Rules.measure step c.args.mail))
     c.loop-mail.out c.take_step-taken.new.out c.loop-mail.waiting c.take_step-taken.new.waiting parts.0
     (ap (λ o. list_all sound o.children) is ∙ g.met.R.Rules.children_sound rules mail parts.1)

@@ -8,7 +8,7 @@ use Rattle.mj_engine.proofs.carry.carry.Given as goal
 
 abbrev pub invariant-loop-mail : goal.invariant-loop-mail
 invariant-loop-mail g l =
-    let step = step_by g.R.Rules.is_sound g.R.Rules.replies_to g.R.Rules.outcome_of l.rules in
+    let step = step_by g.R.Rules.is_sound g.R.Rules.reply_of g.R.Rules.outcome_of l.rules in
     record {
       sound : list_all (g.R.Rules.is_sound l.rules) l.waiting ≡ true;
       lines : l.out ++ waiting_lines g.R.Rules.measure step l.waiting ≡ l.initial.out ++ flat_map fact_line (tree g.R.Rules.measure step l.fn.mail);
@@ -16,4 +16,4 @@ invariant-loop-mail g l =
 
 abbrev pub decreases-loop-mail : goal.decreases-loop-mail
 decreases-loop-mail g l =
-    waiting_weight g.R.Rules.measure (step_by g.R.Rules.is_sound g.R.Rules.replies_to g.R.Rules.outcome_of l.rules) l.waiting
+    waiting_weight g.R.Rules.measure (step_by g.R.Rules.is_sound g.R.Rules.reply_of g.R.Rules.outcome_of l.rules) l.waiting

@@ -8,4 +8,4 @@ returns g c =
     let mail = c.args.mail.now in
     c.in_ok-outcome.ensures
     ∙ ap (g.R.Rules.outcome_of rules mail) c.in_ok-replies.ensures
-    ∙ sym (step_is g.R.Rules.measure g.R.Rules.is_sound g.R.Rules.replies_to g.R.Rules.outcome_of rules (g.met.R.Rules.falls rules) mail c.requires)
+    ∙ sym (step_is g.R.Rules.measure g.R.Rules.is_sound g.R.Rules.reply_of g.R.Rules.outcome_of rules (g.met.R.Rules.falls rules) mail c.requires)

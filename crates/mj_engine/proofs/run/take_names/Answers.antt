@@ -1,5 +1,5 @@
 use Rattle.std.proofs.Common.{◌≡◌, IfSome, drop, subst, ap, ◌+◌, ◌∙◌, arith}
-use Rattle.mj_engine.specs.Run.{with_name, with_names, empty_report}
+use Rattle.mj_engine.specs.Run.{with_name, with_names, empty_report, site_of}
 use Rattle.mj_engine.proofs.Names.{IfSome_both, with_names-next}
 use Rattle.mj_engine.proofs.run.take_names.Goals as goal
 
@@ -12,13 +12,13 @@ loop-k-preserved g c =
       later = omega (arith, so_far.later, taken.cause.later);
       count = omega (arith, so_far.count, taken.count);
       exact = IfSome_both (g.F.Files.told c.args.files.now)
-          (λ told. c.take_name.new.report ≡ with_name c.args.rules.now.plan told c.loop-k.report c.name_at.result.now)
-          (λ told. with_names c.args.rules.now.plan told (drop c.loop-k.k c.args.names.now) c.loop-k.report ≡ with_names c.args.rules.now.plan told c.args.names.now empty_report)
-          (λ told. with_names c.args.rules.now.plan told (drop (c.loop-k.k + 1) c.args.names.now) c.take_name.new.report ≡ with_names c.args.rules.now.plan told c.args.names.now empty_report)
-          (subst (λ o. IfSome o (λ told. c.take_name.new.report ≡ with_name c.args.rules.now.plan told c.loop-k.report c.name_at.result.now)) so_far.told taken.exact)
+          (λ told. c.take_name.new.report ≡ with_name (site_of c.args.rules.now) told c.loop-k.report c.name_at.result.now)
+          (λ told. with_names (site_of c.args.rules.now) told (drop c.loop-k.k c.args.names.now) c.loop-k.report ≡ with_names (site_of c.args.rules.now) told c.args.names.now empty_report)
+          (λ told. with_names (site_of c.args.rules.now) told (drop (c.loop-k.k + 1) c.args.names.now) c.take_name.new.report ≡ with_names (site_of c.args.rules.now) told c.args.names.now empty_report)
+          (subst (λ o. IfSome o (λ told. c.take_name.new.report ≡ with_name (site_of c.args.rules.now) told c.loop-k.report c.name_at.result.now)) so_far.told taken.exact)
           so_far.exact
           (λ told here before.
-          ap (with_names c.args.rules.now.plan told (drop (c.loop-k.k + 1) c.args.names.now)) here
-          ∙ with_names-next c.args.rules.now.plan told c.args.names.now c.loop-k.k c.name_at.result.now c.loop-k.report c.name_at.ensures
+          ap (with_names (site_of c.args.rules.now) told (drop (c.loop-k.k + 1) c.args.names.now)) here
+          ∙ with_names-next (site_of c.args.rules.now) told c.args.names.now c.loop-k.k c.name_at.result.now c.loop-k.report c.name_at.ensures
           ∙ before);
     }

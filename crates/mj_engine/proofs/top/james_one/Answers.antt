@@ -8,8 +8,8 @@ returns-then-asks_run g c =
     let run = c.run_command.ensures in
     record {
       runs =
-          run_ends _ c.run_command.result (sym c.asks_run.ensures ∙ c.if-asks_run.true) run.status run.configuration run.read run.write run.report run.report_front
-          run.config_text run.read_text run.nothing run.same_files run.file_faults run.sink_faults;
+          run_ends _ c.run_command.result (sym c.asks_run.ensures ∙ c.if-asks_run.true) run.status run.configuration run.answers run.read run.write run.report run.report_front
+          run.config_text run.answers_text run.read_text run.nothing run.same_files run.file_faults run.sink_faults;
     }
 
 pub returns-else-asks_run : goal.returns-else-asks_run
