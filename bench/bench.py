@@ -25,6 +25,10 @@ Shapes:
               above an empty run of its configuration; 1,000 mails with a head of 50,000 bytes to which one step appends a
               field, and 100, and 100 mails of 13,000 fields from which it removes one name, and 100, each above the same
               mails without; 100 notices about 1 recipient, and about 500; N mails through `All`, and through ten mailets
+  remote      each against the first of its pair: N mails to a remote host, where the table of answers has 10 rows or 10,000,
+              whose first row fits, or the last, or none, each above an empty run of its table; 10 mails that are tried
+              11 times, and 101 times; 20 mails to one recipient, and to 500 at 500 hosts; N and 10 N mails to a local, a
+              remote and an unknown recipient; and a table of 1 MB, above an empty run, against what `toml` alone takes
   plan        a configuration of 1 MB in many steps, and one in many rows of `[[rewrite]]`, with no mail: the time above
               that of an empty run, against what `toml` alone takes for the same bytes, and the peak memory above that
               of an empty run
@@ -149,6 +153,33 @@ def mappings(count):
     return rows + '[[rewrite]]\ndomain = "example.net"\nto_domain = "example.org"\n'
 
 
+# Local mail is delivered, mail for other hosts is sent, and what nobody is to get is kept.
+TRANSPORT = (root(('"All"', to_processor("transport")))
+             + '[[processor]]\nname = "transport"\n'
+             + matched(('"RecipientIsLocal"', 'class = "LocalDelivery"'), ('"HostIsLocal"', to_processor("error")),
+                       ('"All"', 'class = "RemoteDelivery"\ndelayTime = "2*5 minutes, 1 hour"\nmaxRetries = 5'))
+             + processor("error", 'class = "ToRepository"\nrepositoryPath = "file://var/mail/error"'))
+
+
+def sending(retries=5):
+    """All mail is sent to its recipients' hosts."""
+    return SPOOL + processor("root", f'class = "RemoteDelivery"\nmaxRetries = {retries}') + processor("error")
+
+
+def answer(reply, **keys):
+    """A row of the table of answers."""
+    return "[[answer]]\n" + "".join(f'{key} = "{value}"\n' for key, value in keys.items()) + f'reply = "{reply}"\n'
+
+
+def tables_of_answers():
+    """Tables of 10 and 10,000 rows, of which the first fits, or the last, or none."""
+    fits = answer("250 taken", recipient="bob0@example.net")
+    others = {count: "".join(answer("250 taken", recipient=f"u{number}@example.net") for number in range(count))
+              for count in (9, 10, 9_999, 10_000)}
+    return {"the first fits": (fits + others[9], fits + others[9_999]), "the last fits": (others[9] + fits, others[9_999] + fits),
+            "none fits": (others[10], others[10_000])}
+
+
 CRATES = Path(__file__).resolve().parents[1] / "crates"
 PROGRAM = CRATES / "james_cli/out/james_cli"
 YARDSTICK = CRATES / "toml_yardstick/out/toml_yardstick"
@@ -156,7 +187,7 @@ QUEUE = CRATES / "ready_bench/out/ready_bench"
 LOG = CRATES / "log_bench/out/log_bench"
 APPEND = Path(__file__).resolve().parent / "append.c"
 IN_MEMORY = Path("/dev/shm")
-SHAPES = ("small", "large", "rate", "heads", "recipients", "hops", "processors", "matching", "mailets", "plan", "queue", "log")
+SHAPES = ("small", "large", "rate", "heads", "recipients", "hops", "processors", "matching", "mailets", "remote", "plan", "queue", "log")
 
 MAX_FILE = 16_777_216
 LONG_HEAD = 65_000
@@ -187,6 +218,11 @@ class Run(NamedTuple):
 def envelope(recipients=1):
     lines = [f"RCPT TO:<bob{number}@example.net>\r\n" for number in range(recipients)]
     return f"MAIL FROM:<ann@example.org>\r\n{''.join(lines)}DATA\r\n".encode()
+
+
+def mail_to(*recipients, sender="ann@example.org", body_size=1000):
+    lines = "".join(f"RCPT TO:<{recipient}>\r\n" for recipient in recipients)
+    return f"MAIL FROM:<{sender}>\r\n{lines}DATA\r\n".encode() + SHORT_HEAD + b"\r\n" + body(body_size)
 
 
 def body(size):
@@ -267,7 +303,7 @@ def run_program(program, words, output, folder):
 class Folder:
     """A folder to run a program in, which is `james` if no other is given: `conf`, `mails`, and what it makes of them."""
 
-    def __init__(self, bench, name, configuration=CONFIGURATION, program=None):
+    def __init__(self, bench, name, configuration=CONFIGURATION, program=None, answers=None):
         self.bench = bench
         self.program = program or bench.james
         self.path = bench.root / name
@@ -279,6 +315,8 @@ class Folder:
         self.mails.mkdir(parents=True)
         (self.path / "conf").mkdir()
         (self.path / "conf/mailetcontainer.toml").write_text(configuration)
+        if answers is not None:
+            (self.path / "conf/answers.toml").write_text(answers)
 
     def add(self, count, content):
         """Adds so many mails with this content."""
@@ -384,9 +422,9 @@ class Bench:
         self.root = root
         self.empty = Run(0, 0)
 
-    def folder(self, name, content=b"", count=0, configuration=CONFIGURATION, program=None):
+    def folder(self, name, content=b"", count=0, configuration=CONFIGURATION, program=None, answers=None):
         """A folder with so many mails of this content, which are in the page cache."""
-        folder = Folder(self, name.replace(" ", "-"), configuration, program)
+        folder = Folder(self, name.replace(" ", "-"), configuration, program, answers)
         folder.add(count, content)
         folder.read_all()
         return folder
@@ -671,6 +709,74 @@ class Bench:
         for folder in folders:
             folder.remove()
 
+    def remote(self):
+        title("remote", "time", "by the first")
+        for name, tables in tables_of_answers().items():
+            self.answered(name, tables)
+        self.tried()
+        self.many_hosts()
+        self.three_ways()
+        self.long_table()
+
+    def answered(self, name, tables):
+        """The reading of the table is taken off."""
+        content = mail(body_size=self.body_size)
+        full = [self.folder(f"answered {at}", content, self.mails, sending(), answers=table) for at, table in enumerate(tables)]
+        empty = [self.folder(f"answered {at} empty", configuration=sending(), answers=table) for at, table in enumerate(tables)]
+        rounds = self.measure(*[folder.run_once for folder in full + empty])
+        self.row_pair([f"{rows:,} rows, {name}" for rows in (10, 10_000)], rounds, above=(2, 3))
+        for folder in full + empty:
+            folder.remove()
+
+    def tried(self):
+        """Each mail has a null sender, is put off each time, and is dropped in the end."""
+        folders = []
+        for retries in (10, 100):
+            folder = self.folder(f"tried {retries}", mail_to("bob@example.net", sender=""), 10, sending(retries), answers=answer("450 busy"))
+            folder.lines_each = retries + 1
+            folders.append(folder)
+        rounds = self.measure(*[folder.run_once for folder in folders])
+        self.row_pair(("10 mails tried 11 times", "10 mails tried 101 times"), rounds)
+        for folder in folders:
+            folder.remove()
+
+    def many_hosts(self):
+        folders = []
+        for count in (1, 500):
+            content = mail_to(*[f"bob@host{number}.example.net" for number in range(count)], body_size=self.body_size)
+            folders.append(self.folder(f"hosts {count}", content, 20, sending()))
+            folders[-1].lines_each = count
+        rounds = self.measure(*[folder.run_once for folder in folders])
+        self.row_pair(("20 mails to one host", "20 mails to 500 hosts"), rounds)
+        for folder in folders:
+            folder.remove()
+
+    def three_ways(self):
+        content = mail_to("ann@example.org", "dan@example.net", "zoe@example.org", sender="cara@example.net", body_size=self.body_size)
+        folders = []
+        for count in (self.mails, 10 * self.mails):
+            folders.append(self.folder(f"three ways {count}", content, count, SPOOL + TRANSPORT))
+            folders[-1].lines_each = 3
+        rounds = self.measure(*[folder.run_once for folder in folders])
+        self.row_pair([f"{folder.count:,} mails, three recipients" for folder in folders], rounds)
+        row("  user time of a mail", f"{best(rounds, 1).user / folders[1].count * 1000:.4f} ms")
+        for folder in folders:
+            folder.remove()
+
+    def long_table(self):
+        """The table is read by `james` beside a small configuration, and by the yardstick alone."""
+        table = "".join(answer(f"250 taken {number:05} " + "x" * 30, recipient=f"u{number}@host{number}.example.net") for number in range(9_900))
+        folders = [self.folder("table", configuration=sending(), answers=table), self.folder("table empty", configuration=sending()),
+                   self.folder("table toml", configuration=table, program=self.yardstick),
+                   self.folder("table toml empty", configuration=sending(), program=self.yardstick)]
+        rounds = self.measure(*[folder.run_once for folder in folders])
+        empty, run = best(rounds, 1), best(rounds, 0)
+        title("remote: a table of answers", "bytes", "time", "by toml alone", "memory")
+        row("9,900 rows", f"{len(table):,}", f"{(run.seconds - empty.seconds) * 1000:.1f} ms",
+            times(ratio(rounds, 0, 2, above=(1, 3))), f"{run.peak - empty.peak:,} KiB")
+        for folder in folders:
+            folder.remove()
+
     def plan(self):
         """Each configuration is read by `james` and by the yardstick, beside an empty run of both."""
         configurations = {"": CONFIGURATION, **long_configurations()}
@@ -799,7 +905,7 @@ def arguments():
     if given.mails < 1 or given.size < 0 or given.rounds < 1:
         parser.error("N and ROUNDS are at least 1, BYTES at least 0")
     given.shape = given.shape or SHAPES
-    of_shapes = {"plan": given.yardstick, "queue": given.queue, "log": given.log}
+    of_shapes = {"plan": given.yardstick, "remote": given.yardstick, "queue": given.queue, "log": given.log}
     programs = [given.james] + [program for shape, program in of_shapes.items() if shape in given.shape]
     for program in programs:
         if not os.access(program, os.X_OK):
