@@ -8,5 +8,7 @@ mod remote;
 #[cfg(test)]
 mod runs;
 #[cfg(test)]
+mod settling;
+#[cfg(test)]
 mod splits;
 pub mod sure;
