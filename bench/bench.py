@@ -765,7 +765,8 @@ class Bench:
 
     def long_table(self):
         """The table is read by `james` beside a small configuration, and by the yardstick alone."""
-        table = "".join(answer(f"250 taken {number:05} " + "x" * 30, recipient=f"u{number}@host{number}.example.net") for number in range(9_900))
+        table = "".join(answer(f"250 taken {number:05} " + "x" * 22, recipient=f"u{number}@host{number}.example.net")
+                        for number in range(9_900))
         folders = [self.folder("table", configuration=sending(), answers=table), self.folder("table empty", configuration=sending()),
                    self.folder("table toml", configuration=table, program=self.yardstick),
                    self.folder("table toml empty", configuration=sending(), program=self.yardstick)]
