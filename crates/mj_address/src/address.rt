@@ -5,7 +5,7 @@ ghost use Rattle.std.specs.Cmp.Rules.{comparing, hashing};
 ghost use Rattle.std.specs.Hash as fed;
 ghost use Rattle.std.specs.Str.{str_to_ascii_lowercase};
 ghost use Rattle.mj_address.specs.Grammar.{IsLocal, IsDomain, IsAddress};
-ghost use Rattle.mj_address.specs.Reading.{address_of, spelled, Gives};
+ghost use Rattle.mj_address.specs.Reading.{Gives, address_of, both_parts, domain_of, local_of, spelled};
 ghost use Rattle.mj_address.specs.Same.{same_address, with_lower_local};
 
 use crate::domain::Domain;
@@ -44,6 +44,18 @@ impl Address {
         ensures spelling { IfOk result (λ address. bytes.now ≡ spelled address) }
     {
         let (local, domain) = judged_parts(bytes)?;
+        Address::keep(alloc, local, domain).map_err(|_| AddressFault::Memory)
+    }
+
+    /// The address of a local part and a domain that stand apart. The fault is the local part's, as `read` says, and
+    /// else the domain's. Bytes that are no address take no memory.
+    pub fn from_parts(alloc: Global, local: &[u8], domain: &[u8]) -> Result<Address, AddressFault>
+        ensures exact { Gives result (both_parts (local_of local.now) (domain_of domain.now)) }
+        ensures parts { IfOk result (λ address. address ≡ (local.now, domain.now)) }
+        ensures form { OnOk result (IsAddress (local.now, domain.now)) }
+    {
+        judge_local(local)?;
+        judge_domain(domain)?;
         Address::keep(alloc, local, domain).map_err(|_| AddressFault::Memory)
     }
 

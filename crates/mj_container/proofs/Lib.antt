@@ -11,6 +11,7 @@ pub mod Deliveries
 pub mod Steps
 pub mod Replies
 pub mod Settled
+pub mod Stages
 pub mod Stays
 pub mod Fit
 pub mod Laws

@@ -1,5 +1,6 @@
 pub mod Settling
 pub mod Sound
+pub mod Stages
 pub mod Matching
 pub mod Verdict
 pub mod Changes

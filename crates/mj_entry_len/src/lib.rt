@@ -3,11 +3,13 @@
 #![tactic(auto)]
 
 mod done;
+mod entry;
 mod fact;
 mod mail;
 mod most;
 mod parts;
 
 pub use done::{done_fits, done_len};
+pub use entry::entry_len;
 pub use fact::{fact_len, reply_len};
 pub use mail::{mail_len, name_len};

@@ -1,6 +1,7 @@
 //! Heads of messages (RFC 5322, 2.2): reading, writing and changing their fields.
 #![tactic(auto)]
 
+mod builder;
 mod cursor;
 mod fault;
 mod field;
@@ -12,6 +13,7 @@ mod text;
 mod unfold;
 mod walk;
 
+pub use builder::HeadBuilder;
 pub use fault::HeadFault;
 pub use field::Field;
 pub use head::{Head, write_head};

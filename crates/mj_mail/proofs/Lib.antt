@@ -1,4 +1,5 @@
 pub mod AttributeLists
 pub mod Entries
 pub mod Numbers
+pub mod Recipients
 pub mod Trees

@@ -1,9 +1,11 @@
--- The entry that a journal keeps of a step of a mail, as bytes: each item in its form, one behind the other. Numbers
--- have a fixed size, their lowest byte first, and a string of bytes stands behind its length.
+-- The entries that a journal keeps, as bytes: each item in its form, one behind the other. Numbers have a fixed size,
+-- their lowest byte first, and a string of bytes stands behind its length.
 use Rattle.std.specs.Prelude.{ℕ, nat_le, Bool, if◌then◌else◌, List, ◌++◌, length, Option, Some, None}
 use Rattle.std.specs.Int.{w8, w16, w32, w64, to_le_bytes}
 use Rattle.std.specs.List.{flat_map}
 use Rattle.mj_fields.specs.Fields.{with_length}
+use Rattle.mj_mail.specs.declared.entry.Entry.{Entry}
+use Rattle.mj_mail.specs.declared.entry.Entry.TheVariants.{Setup, Accept, Done}
 use Rattle.mj_mail.specs.declared.fact.Fact.{Fact}
 use Rattle.mj_mail.specs.declared.fact.Fact.TheVariants.{Deposit, Sent, Retry, Bounce, Dropped, FellOff, Looped, Overrun}
 use Rattle.mj_mail.specs.declared.fact.Outcome.{Outcome}
@@ -13,6 +15,7 @@ use Rattle.mj_mail.specs.declared.limits.TheConstants.{MAX_DONE}
 use Rattle.mj_mail.specs.declared.mail.Body.{Body}
 use Rattle.mj_mail.specs.declared.mail.Body.TheVariants.{Original, Made}
 use Rattle.mj_mail.specs.declared.mail.Mail.{Mail}
+use Rattle.mj_mail.specs.declared.mail.NewMail.{NewMail}
 use Rattle.mj_mail.specs.declared.mail.Stage.{Stage}
 use Rattle.mj_mail.specs.declared.mail.Stage.TheVariants.{Process, Remote}
 use Rattle.mj_mail.specs.declared.name.Name.{Name}
@@ -117,7 +120,19 @@ abbrev pub done_form : Name → List Reply → Outcome → List ℕ
 done_form name replies outcome =
     to_le_bytes w8 2 ++ name_form name ++ list_form reply_form replies ++ list_form fact_form outcome.facts ++ list_form mail_form outcome.children
 
--- the entry has at most 67,108,864 bytes
+-- a new mail: its envelope, its head and its body
+abbrev pub new_mail_form : NewMail → List ℕ
+new_mail_form new = envelope_form new.sender new.recipients ++ head_form new.head ++ with_length new.body
+
+-- an entry: a number for its kind, and what it tells
+abbrev pub entry_form : Entry → List ℕ
+entry_form (Setup plan) = to_le_bytes w8 0 ++ with_length plan
+entry_form (Accept number file new) = to_le_bytes w8 1 ++ to_le_bytes w64 number ++ with_length file ++ new_mail_form new
+entry_form (Done name replies outcome) = done_form name replies outcome
+
+-- ---- What is kept of a step
+
+-- the entry of a step has at most 67,108,864 bytes
 abbrev pub done_fits : Name → List Reply → Outcome → Bool
 done_fits name replies outcome = nat_le (length (done_form name replies outcome)) MAX_DONE
 

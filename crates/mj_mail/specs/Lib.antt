@@ -1,5 +1,6 @@
 pub mod Attributes
 pub mod Entry
+pub mod Line
 pub mod Mail
 pub mod Meaning
 pub mod Name

@@ -1,10 +1,11 @@
 -- What a mail is when it is accepted, the mail for some of its recipients, and how large a message is.
-use Rattle.std.specs.Prelude.{ℕ, ◌+◌, List, [], length, codes}
+use Rattle.std.specs.Prelude.{ℕ, ◌+◌, Bool, true, false, List, [], length, codes}
 use Rattle.mj_mail.specs.declared.mail.Body.{Body}
 use Rattle.mj_mail.specs.declared.mail.Body.TheVariants.{Original, Made}
 use Rattle.mj_mail.specs.declared.mail.Mail.{Mail}
 use Rattle.mj_mail.specs.declared.mail.NewMail.{NewMail}
-use Rattle.mj_mail.specs.declared.mail.Stage.TheVariants.{Process}
+use Rattle.mj_mail.specs.declared.mail.Stage.{Stage}
+use Rattle.mj_mail.specs.declared.mail.Stage.TheVariants.{Process, Remote}
 use Rattle.mj_mail.specs.Name.{first_name}
 use Rattle.mj_head.specs.Head.{written}
 
@@ -27,6 +28,11 @@ first start number new = record {
   hops = 0;
   due = start;
 }
+
+-- a mail that is sent to a host
+abbrev pub is_remote : Stage → Bool
+is_remote (Process state) = false
+is_remote (Remote delivery host attempt) = true
 
 -- the same mail for these recipients
 abbrev pub restrict : Mail → List (List ℕ × List ℕ) → Mail

@@ -93,6 +93,22 @@ pub trait Rules {
         → length (done_form mail.name (replies_to (reply_of rules) mail) (outcome_of rules mail (replies_to (reply_of rules) mail))) ≤ MAX_PAYLOAD };
 }
 
+/// Rules that may follow others: they tell whether they allow a mail that the others carried.
+pub trait Stages: Rules {
+    /// A mail whose stage these rules have.
+    ghost is_allowed: { Self → Mail → Bool };
+
+    /// Whether these rules have the mail's stage: its processor, or its remote delivery. It takes no memory.
+    fn allows(&self, mail: &Mail) -> bool
+        ensures { result ≡ is_allowed self.now mail.now };
+
+    // Rules allow what they carry.
+    ghost sound_allowed: { (rules : Self) (mail : Mail) → Self.is_sound rules mail ≡ true → is_allowed rules mail ≡ true };
+
+    // A mail that is sound for some rules is sound for all others that allow it.
+    ghost allowed_sound: { (rules others : Self) (mail : Mail) → Self.is_sound rules mail ≡ true → is_allowed others mail ≡ true → Self.is_sound others mail ≡ true };
+}
+
 /// What the rules' hosts answer for each recipient of a mail, in order: nothing for one that waits for a processor.
 pub fn replies_to<R: Rules>(alloc: Global, rules: &R, mail: &Mail) -> Result<Items<Reply>, Memory>
     ensures { IfOk result (λ replies. replies ≡ replies_to (R.reply_of rules.now) mail.now) }

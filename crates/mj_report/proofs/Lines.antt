@@ -1,29 +1,10 @@
 -- Lists of lines, one more at a time.
-use Rattle.std.proofs.Common.{◌≡◌, ℕ, zero, suc, ◌+◌, List, [], ◌∷◌, ◌++◌, take, map, Some, sym, ap, add-one, append_assoc, append-nil}
-use Rattle.std.specs.List.{flat_map, enumerate_from, slice_get}
+use Rattle.std.specs.Prelude.{ℕ, List, map}
+use Rattle.std.specs.List.{enumerate_from}
 use Rattle.mj_mail.specs.declared.fact.Fact.{Fact}
 use Rattle.mj_mail.specs.declared.name.Name.{Name}
 use Rattle.mj_mail.specs.Meaning.{Placed}
-use Rattle.mj_address.specs.Reading.{spelled}
-use Rattle.mj_report.specs.Facts.{recipients_text, separator}
 
 -- facts with their places, the first of them under this number
 abbrev pub placed_from : Name → ℕ → List Fact → List Placed
 placed_from name number facts = map (λ fact. record { name = name; number = fact.0; fact = fact.1 }) (enumerate_from number facts)
-
-others_next : (rs : List (List ℕ × List ℕ)) (k : ℕ) (a : List ℕ × List ℕ) → slice_get rs k ≡ Some a
-    → flat_map (λ other. 44 ∷ spelled other) (take (suc k) rs) ≡ flat_map (λ other. 44 ∷ spelled other) (take k rs) ++ (44 ∷ spelled a)
-others_next [] k a e = cc
-others_next (r ∷ rs) zero a e =
-    let same : r ≡ a = cc in
-    rw (append-nil (44 ∷ spelled r)) (ap (λ x. 44 ∷ spelled x) same)
-others_next (r ∷ rs) (suc k) a e = rw (others_next rs k a e) (sym (append_assoc (44 ∷ spelled r) _ _))
-
--- one more recipient
-pub recipients_next : (rs : List (List ℕ × List ℕ)) (k : ℕ) (a : List ℕ × List ℕ) → slice_get rs k ≡ Some a
-    → recipients_text (take (k + 1) rs) ≡ (recipients_text (take k rs) ++ separator k) ++ spelled a
-recipients_next [] k a e = cc
-recipients_next (r ∷ rs) zero a e =
-    let same : r ≡ a = cc in
-    rw (append-nil (spelled r)) (ap spelled same)
-recipients_next (r ∷ rs) (suc k) a e = rw (add-one (suc k), others_next rs k a e) (simp append_assoc)

@@ -1,27 +1,17 @@
 -- The lines of facts, without their LF where the name doesn't say line.
-use Rattle.std.specs.Prelude.{ℕ, zero, suc, List, [], ◌∷◌, ◌++◌, codes}
+use Rattle.std.specs.Prelude.{ℕ, List, [], ◌∷◌, ◌++◌, codes}
 use Rattle.std.specs.Fmt.{decimal}
-use Rattle.std.specs.List.{flat_map}
 use Rattle.mj_address.specs.Reading.{spelled}
 use Rattle.mj_mail.specs.declared.fact.Fact.{Fact}
 use Rattle.mj_mail.specs.declared.fact.Fact.TheVariants.{Deposit, Sent, Retry, Bounce, Dropped, FellOff, Looped, Overrun}
 use Rattle.mj_mail.specs.declared.fact.Why.{Why}
 use Rattle.mj_mail.specs.declared.fact.Why.TheVariants.{Discarded, NoReturnPath}
 use Rattle.mj_mail.specs.declared.reply.Reply.{Reply}
+use Rattle.mj_mail.specs.Line.{recipients_text}
 use Rattle.mj_mail.specs.Mail.{size}
 use Rattle.mj_mail.specs.Meaning.{Placed}
 use Rattle.mj_mail.specs.Name.{text_of}
 use Rattle.mj_mail.specs.Reply.{reply_text}
-
--- the addresses as they are spelled, joined by commas
-abbrev pub recipients_text : List (List ℕ × List ℕ) → List ℕ
-recipients_text [] = []
-recipients_text (address ∷ rest) = spelled address ++ flat_map (λ other. 44 ∷ spelled other) rest
-
--- what stands before the address at a place
-abbrev pub separator : ℕ → List ℕ
-separator zero = []
-separator (suc place) = 44 ∷ []
 
 -- what is said of a fact
 abbrev pub deposit_text : List ℕ → List (List ℕ × List ℕ) → ℕ → List ℕ

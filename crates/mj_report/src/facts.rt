@@ -1,14 +1,14 @@
 //! Lines of facts.
-ghost use Rattle.std.specs.Prelude.{◌≡◌, ◌++◌, ◌∷◌, ◌<◌, length, slice_get, Some, IfOk, OnOk};
+ghost use Rattle.std.specs.Prelude.{◌≡◌, ◌++◌, IfOk, OnOk};
 ghost use Rattle.std.specs.List.{flat_map};
-ghost use Rattle.mj_address.specs.Reading.{spelled};
+ghost use Rattle.mj_mail.specs.Line.{recipients_text};
 ghost use Rattle.mj_mail.specs.Meaning.{placed};
 ghost use Rattle.mj_mail.specs.Name.{text_of};
-ghost use Rattle.mj_report.specs.Facts.{deposit_text, fact_line as line_of_fact, fact_text, felloff_text, line_of, recipients_text, retry_text, sent_text, separator, why_text};
+ghost use Rattle.mj_report.specs.Facts.{deposit_text, fact_line as line_of_fact, fact_text, felloff_text, line_of, retry_text, sent_text, why_text};
 
 use mj_address::{Address, Domain, Recipients};
 use mj_fields::{Bytes, Memory};
-use mj_mail::{Fact, Name, Reply, Why, name_text, put_number};
+use mj_mail::{Fact, Name, Reply, Why, name_text, put_address, put_number, put_recipients};
 use std::alloc::Global;
 
 /// The line of a fact of the mail of this name: the name, `#`, the fact's number in its outcome, from 1, what is said of it, and LF.
@@ -168,41 +168,4 @@ fn put_retry(
     put_number(alloc, out, u64::from(attempt))?;
     out.push(b' ')?;
     put_number(alloc, out, due)
-}
-
-fn put_recipients(out: &mut Bytes, recipients: &Recipients) -> Result<(), Memory>
-    ensures { OnOk result (out.new ≡ out.old ++ recipients_text recipients.now) }
-{
-    for k in 0..recipients.len() {
-        put_separator(out, k)?;
-        put_address(out, recipient_at(recipients, k))?;
-    }
-    Ok(())
-}
-
-fn recipient_at(recipients: &Recipients, k: usize) -> &Address
-    requires { k < length recipients.now }
-    ensures { slice_get recipients.now k ≡ Some result.now }
-{
-    match recipients.get(k) {
-        Some(address) => address,
-        None => unreachable!(),
-    }
-}
-
-fn put_separator(out: &mut Bytes, place: usize) -> Result<(), Memory>
-    ensures { OnOk result (out.new ≡ out.old ++ separator place) }
-{
-    if place == 0 {
-        return Ok(());
-    }
-    out.push(b',')
-}
-
-fn put_address(out: &mut Bytes, address: &Address) -> Result<(), Memory>
-    ensures { OnOk result (out.new ≡ out.old ++ spelled address.now) }
-{
-    out.extend(address.local())?;
-    out.push(b'@')?;
-    out.extend(address.domain().as_slice())
 }

@@ -1,5 +1,5 @@
 -- When an object of the outside may answer that it failed.
-use Rattle.std.specs.Prelude.{◌≡◌, ℕ, ◌+◌, ◌-◌, ◌^◌, ◌≤◌, min, Result, IsErrOf}
+use Rattle.std.specs.Prelude.{ℕ, ◌+◌, ◌-◌, ◌^◌, ◌≤◌, min, Result, IsErrOf}
 
 -- A count of faults rose: it is greater than before, or stands at the last value of its type, where it stays.
 abbrev pub Rose : ℕ → ℕ → Type 0

@@ -1,6 +1,6 @@
 use Rattle.std.proofs.Common.{append_assoc}
-use Rattle.mj_report.proofs.Lines.{recipients_next}
-use Rattle.mj_report.proofs.facts.put_recipients.Goals as goal
+use Rattle.mj_mail.proofs.Recipients.{recipients_next}
+use Rattle.mj_mail.proofs.line.put_recipients.Goals as goal
 
 pub loop-k-preserved : goal.loop-k-preserved
 loop-k-preserved c =

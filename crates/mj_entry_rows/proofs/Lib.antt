@@ -1,0 +1,11 @@
+pub mod Addresses
+pub mod AttributeLists
+pub mod Entries
+pub mod Facts
+pub mod Heads
+pub mod Joins
+pub mod KindRows
+pub mod Lists
+pub mod Mails
+pub mod Numbers
+pub mod Rows

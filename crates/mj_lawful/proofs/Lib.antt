@@ -1,0 +1,15 @@
+pub mod Attempts
+pub mod Behind
+pub mod Counts
+pub mod Cut
+pub mod Follow
+pub mod Holds
+pub mod Laws
+pub mod Lists
+pub mod Names
+pub mod Order
+pub mod Pending
+pub mod Runs
+pub mod Stays
+pub mod Trees
+pub mod Unique
