@@ -209,6 +209,7 @@ class Run(NamedTuple):
     seconds: float
     peak: int  # KiB
     user: float = 0  # seconds of the processor outside the system
+    system: float = 0  # seconds of the processor in the system
     reads: int = 0  # calls that read
 
 
@@ -297,7 +298,7 @@ def run_program(program, words, output, folder):
         seconds = time.perf_counter() - start
         reads = reads_of(process)
         _, status, usage = os.wait4(process, 0)
-        return os.waitstatus_to_exitcode(status), Run(seconds, usage.ru_maxrss, usage.ru_utime, reads)
+        return os.waitstatus_to_exitcode(status), Run(seconds, usage.ru_maxrss, usage.ru_utime, usage.ru_stime, reads)
 
 
 class Folder:
@@ -389,7 +390,7 @@ def best(rounds, run):
     """The best times, the worst peak and the most reads of a run."""
     taken = [each[run] for each in rounds]
     return Run(min(each.seconds for each in taken), max(each.peak for each in taken), min(each.user for each in taken),
-               max(each.reads for each in taken))
+               min(each.system for each in taken), max(each.reads for each in taken))
 
 
 def ratio(rounds, run, by, above=None):
@@ -759,7 +760,9 @@ class Bench:
             folders[-1].lines_each = 3
         rounds = self.measure(*[folder.run_once for folder in folders])
         self.row_pair([f"{folder.count:,} mails, three recipients" for folder in folders], rounds)
-        row("  user time of a mail", f"{best(rounds, 1).user / folders[1].count * 1000:.4f} ms")
+        run, count = best(rounds, 1), folders[1].count
+        row("  processor time of a mail", f"{(run.user + run.system) / count * 1000:.4f} ms",
+            f"of it in the system {run.system / count * 1000:.4f} ms")
         for folder in folders:
             folder.remove()
 

@@ -65,11 +65,11 @@ standing_attempt name (x ∷ claims) worker claim h no_yet = by (x.worker == wor
         (with_attempt claims worker) ≡ standing name claims + one_if (same_name claim.name name))
         → (if b then Some x else claim_of claims worker) ≡ Some claim
         → standing name (if b then record { worker = x.worker; name = x.name; attempted = true } ∷ claims else x ∷ with_attempt claims worker) ≡
-            (one_if (x.attempted && same_name x.name name) + standing name claims) + one_if (same_name claim.name name)
+        (one_if (x.attempted && same_name x.name name) + standing name claims) + one_if (same_name claim.name name)
     by true rest h =
         let is : x ≡ claim = cc in
         let e : one_if (x.attempted && same_name x.name name) ≡ 0 = ap (λ b. one_if (b && same_name x.name name))
-            (ap (λ (y : Claim). y.attempted) is ∙ no_yet) in
+        (ap (λ (y : Claim). y.attempted) is ∙ no_yet) in
         let f : one_if (same_name x.name name) ≡ one_if (same_name claim.name name) = ap (λ (y : Claim). one_if (same_name y.name name)) is in
         omega arith
     by false rest h = let g = rest h no_yet in omega arith
@@ -83,11 +83,11 @@ standing_commit name (x ∷ claims) worker claim h = by (x.worker == worker) (st
         (claim.attempted && same_name claim.name name))
         → (if b then Some x else claim_of claims worker) ≡ Some claim
         → one_if (x.attempted && same_name x.name name) + standing name claims ≡ standing name
-            (if b then claims else x ∷ without_claim claims worker) + one_if (claim.attempted && same_name claim.name name)
+        (if b then claims else x ∷ without_claim claims worker) + one_if (claim.attempted && same_name claim.name name)
     by true rest h =
         let is : x ≡ claim = cc in
         let f : one_if (x.attempted && same_name x.name name) ≡ one_if (claim.attempted && same_name claim.name name) =
-            ap (λ (y : Claim). one_if (y.attempted && same_name y.name name)) is in
+        ap (λ (y : Claim). one_if (y.attempted && same_name y.name name)) is in
         omega arith
     by false rest h = let g = rest h in omega arith
 
@@ -168,7 +168,7 @@ pub remote_grow : (r : Meanings) (entries later : List Entry) (more : List Mail)
     → AreRemote r entries claims → AreRemote r later claims
 remote_grow r entries later more claims e h =
     all_weaker (λ claim. claim.attempted ≡ true → is_remote_mail (mail_of (births r entries) claim.name) ≡ true)
-        (λ claim. claim.attempted ≡ true → is_remote_mail (mail_of (births r later) claim.name) ≡ true)
+    (λ claim. claim.attempted ≡ true → is_remote_mail (mail_of (births r later) claim.name) ≡ true)
     (λ claim g a. ap (λ ms. is_remote_mail (mail_of ms claim.name)) e ∙ remote_more (births r entries) more claim.name (g a)) claims h
 
 claimed_attempt : (claims : List Claim) (worker : ℕ) (name : Name) → is_claimed (with_attempt claims worker) name ≡ is_claimed claims name
@@ -177,7 +177,7 @@ claimed_attempt (claim ∷ claims) worker name = by (claim.worker == worker) (cl
   where
     by : (b : Bool) → is_claimed (with_attempt claims worker) name ≡ is_claimed claims name → is_claimed
         (if b then record { worker = claim.worker; name = claim.name; attempted = true } ∷ claims else claim ∷ with_attempt claims worker) name ≡
-            (same_name claim.name name || is_claimed claims name)
+        (same_name claim.name name || is_claimed claims name)
     by true rest = refl
     by false rest = ap (λ b. same_name claim.name name || b) rest
 
@@ -265,6 +265,8 @@ claimed_push (x ∷ claims) claim name h e =
 pub apart_push : (claims : List Claim) (claim : Claim) → NamesApart claims → is_claimed claims claim.name ≡ false → NamesApart (claims ++ claim ∷ [])
 apart_push [] claim h e = (refl, tt)
 apart_push (x ∷ claims) claim h e =
-    let p = or_false (same_name x.name claim.name) (is_claimed claims claim.name) e in
-    (claimed_push claims claim x.name h.0 (differs claim.name x.name
-        (λ q. true≢false (sym (subst (λ n. same_name x.name n ≡ true) (sym q) (same_itself x.name)) ∙ p.0))), apart_push claims claim h.1 p.1)
+    let p = or_false (same_name x.name claim.name) (is_claimed claims claim.name) e in (
+      claimed_push claims claim x.name h.0 (differs claim.name x.name
+          (λ q. true≢false (sym (subst (λ n. same_name x.name n ≡ true) (sym q) (same_itself x.name)) ∙ p.0))),
+      apart_push claims claim h.1 p.1,
+    )

@@ -59,7 +59,7 @@ births_append r epoch (Setup plan ∷ xs) ys = births_append r (suc epoch) xs ys
 births_append r epoch (Accept number file new ∷ xs) ys = ap (λ ms. r.first epoch number new ∷ ms) (births_append r epoch xs ys)
 births_append r epoch (Done name replies outcome ∷ xs) ys =
     ap (λ ms. outcome.children ++ ms) (births_append r epoch xs ys) ∙ sym
-        (append_assoc outcome.children (births_from r epoch xs) (births_from r (epoch + epochs xs) ys))
+    (append_assoc outcome.children (births_from r epoch xs) (births_from r (epoch + epochs xs) ys))
 
 -- the first mail of each Accept entry by the configuration in force at it, where `epoch` is in force before them
 abbrev pub roots_from : Meanings → ℕ → List Entry → List Mail
@@ -125,19 +125,19 @@ roots_are r epoch k [] h = refl
 roots_are r epoch k (Setup plan ∷ entries) h =
     roots_are r (suc epoch) k entries h
     ∙ map_same (λ (a : ℕ × NewMail). r.first (suc epoch + source entries a.0) a.0 a.1)
-        (λ (a : ℕ × NewMail). r.first (epoch + suc (source entries a.0)) a.0 a.1) (accepted entries)
+    (λ (a : ℕ × NewMail). r.first (epoch + suc (source entries a.0)) a.0 a.1) (accepted entries)
     (all_always (λ (a : ℕ × NewMail). r.first (suc epoch + source entries a.0) a.0 a.1 ≡ r.first (epoch + suc (source entries a.0)) a.0 a.1)
-        (λ a. ap (λ n. r.first n a.0 a.1) (omega arith)) (accepted entries))
+    (λ a. ap (λ n. r.first n a.0 a.1) (omega arith)) (accepted entries))
 roots_are r epoch k (Accept number file new ∷ entries) h =
     let head : r.first epoch number new ≡ r.first (epoch + (if number == number then 0 else source entries number)) number new =
     ap (λ n. r.first n number new) (source_here epoch number (source entries number)) in
     let rest : roots_from r epoch entries ≡ map (λ (a : ℕ × NewMail). r.first (epoch + (if number == a.0 then 0 else source entries a.0)) a.0 a.1)
-        (accepted entries) =
+    (accepted entries) =
     roots_are r epoch (suc k) entries h.1
     ∙ map_same (λ (a : ℕ × NewMail). r.first (epoch + source entries a.0) a.0 a.1)
-        (λ (a : ℕ × NewMail). r.first (epoch + (if number == a.0 then 0 else source entries a.0)) a.0 a.1) (accepted entries)
+    (λ (a : ℕ × NewMail). r.first (epoch + (if number == a.0 then 0 else source entries a.0)) a.0 a.1) (accepted entries)
     (all_weaker (λ a. suc k ≤ a.0) (λ (a : ℕ × NewMail). r.first (epoch + source entries a.0) a.0 a.1 ≡ r.first
-        (epoch + (if number == a.0 then 0 else source entries a.0)) a.0 a.1)
+    (epoch + (if number == a.0 then 0 else source entries a.0)) a.0 a.1)
     (λ a le. ap (λ n. r.first (epoch + n) a.0 a.1) (source_there number a.0 (source entries a.0) (let e : number ≡ k = h.0 in omega arith)))
     (accepted entries) (counted_above (suc k) (accepted entries) h.1)) in
     λ i. head i ∷ rest i

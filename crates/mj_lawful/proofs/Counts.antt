@@ -164,7 +164,7 @@ count_commit : (r : Meanings) (state : Machine) (worker : ℕ) (name : Name) →
     → (b : Bool)
     → same_name g.0.name name ≡ b
     → one_if (is_remote_done r state.entries name) + one_if (g.0.attempted && same_name g.0.name name) ≡ one_if
-        (is_remote_done r (state.entries ++ done_of r (epochs state.entries) g.1 ∷ []) name)
+    (is_remote_done r (state.entries ++ done_of r (epochs state.entries) g.1 ∷ []) name)
 count_commit r state worker name holds t g true e =
     let epoch = epochs state.entries in
     let claim = g.0 in
@@ -176,18 +176,18 @@ count_commit r state worker name holds t g true e =
     let its : mail.name ≡ claim.name = (mail_found (pending r state.entries) claim.name mail g.3).1 in
     let done : is_done (state.entries ++ done_of r (epochs state.entries) mail ∷ []) name ≡ true =
     done_done state.entries mail.name (replies_to (r.reply epoch) mail) outcome name
-        ∙ (ap (λ b. is_done state.entries name || b) (ap (λ n. same_name n name) its ∙ e) ∙ or_yes (is_done state.entries name)) in
+    ∙ (ap (λ b. is_done state.entries name || b) (ap (λ n. same_name n name) its ∙ e) ∙ or_yes (is_done state.entries name)) in
     let found : mail_of (births r (state.entries ++ done_of r (epochs state.entries) mail ∷ [])) name ≡ Some mail =
     ap (λ ms. mail_of ms name) (births_done r state.entries mail.name (replies_to (r.reply epoch) mail) outcome) ∙ mail_of_more
-        (births r state.entries) outcome.children name mail p.1 in
+    (births r state.entries) outcome.children name mail p.1 in
     let later : is_remote_done r (state.entries ++ done_of r (epochs state.entries) mail ∷ []) name ≡ is_remote mail.stage =
-        (λ i. done i && is_remote_mail (found i)) in
+    (λ i. done i && is_remote_mail (found i)) in
     let tried : claim.attempted ≡ is_remote mail.stage =
     same_bools claim.attempted (is_remote mail.stage) g.4
     (λ a. ap is_remote_mail (sym (pending_is r state.entries claim.name mail g.3).1) ∙ claim_all
-        (λ x. x.attempted ≡ true → is_remote_mail (mail_of (births r state.entries) x.name) ≡ true) state.claims worker claim t.remote g.2 a) in
+    (λ x. x.attempted ≡ true → is_remote_mail (mail_of (births r state.entries) x.name) ≡ true) state.claims worker claim t.remote g.2 a) in
     let one : one_if (claim.attempted && same_name claim.name name) ≡ one_if (is_remote mail.stage) = ap one_if
-        (ap (λ b. claim.attempted && b) e ∙ (and_yes claim.attempted ∙ tried)) in
+    (ap (λ b. claim.attempted && b) e ∙ (and_yes claim.attempted ∙ tried)) in
     let d0 : one_if (is_remote_done r state.entries name) ≡ 0 = ap one_if before in
     let d1 : one_if (is_remote_done r (state.entries ++ done_of r (epochs state.entries) mail ∷ []) name) ≡ one_if (is_remote mail.stage) = ap one_if later in
     omega arith
@@ -199,12 +199,12 @@ count_commit r state worker name holds t g false e =
     let its : mail.name ≡ claim.name = (mail_found (pending r state.entries) claim.name mail g.3).1 in
     let done : is_done (state.entries ++ done_of r (epochs state.entries) mail ∷ []) name ≡ is_done state.entries name =
     done_done state.entries mail.name (replies_to (r.reply epoch) mail) outcome name
-        ∙ (ap (λ b. is_done state.entries name || b) (ap (λ n. same_name n name) its ∙ e) ∙ or_none (is_done state.entries name)) in
+    ∙ (ap (λ b. is_done state.entries name || b) (ap (λ n. same_name n name) its ∙ e) ∙ or_none (is_done state.entries name)) in
     let later = remote_done_same r state.entries (state.entries ++ done_of r (epochs state.entries) mail ∷ []) outcome.children name holds
-        (births_done r state.entries mail.name (replies_to (r.reply epoch) mail) outcome) done in
+    (births_done r state.entries mail.name (replies_to (r.reply epoch) mail) outcome) done in
     let one : one_if (claim.attempted && same_name claim.name name) ≡ 0 = ap one_if (ap (λ b. claim.attempted && b) e ∙ and_no claim.attempted) in
     let d : one_if (is_remote_done r (state.entries ++ done_of r (epochs state.entries) mail ∷ []) name) ≡ one_if
-        (is_remote_done r state.entries name) = ap one_if later in
+    (is_remote_done r state.entries name) = ap one_if later in
     omega arith
 
 count_set_up : (r : Meanings) (entries : List Entry) (plan : Option (List ℕ)) (name : Name) → Holds r entries
@@ -219,7 +219,7 @@ count_after r state (Accept file new) name h holds t =
     let number = suc (length (accepted state.entries)) in
     let d : one_if (is_remote_done r (state.entries ++ AcceptEntry number file new ∷ []) name) ≡ one_if (is_remote_done r state.entries name) =
     ap one_if (remote_done_same r state.entries (state.entries ++ AcceptEntry number file new ∷ []) (r.first (epochs state.entries) number new ∷ []) name holds
-        (births_accept r state.entries number file new) (done_accept state.entries number file new name)) in
+    (births_accept r state.entries number file new) (done_accept state.entries number file new name)) in
     omega arith
 count_after r state CloseIntake name h holds t = omega arith
 count_after r state (Take worker other) name h holds t =
@@ -229,14 +229,14 @@ count_after r state (Attempt worker) name h holds t =
     let e = standing_attempt name state.claims worker g.0 g.2 g.5 in
     let f : times name (state.attempts ++ claimed_name (claim_of state.claims worker)) ≡ times name state.attempts + one_if (same_name g.0.name name) =
     times_append name state.attempts (claimed_name (claim_of state.claims worker))
-        ∙ (ap (λ claim. times name state.attempts + times name (claimed_name claim)) g.2 ∙ (omega arith)) in
+    ∙ (ap (λ claim. times name state.attempts + times name (claimed_name claim)) g.2 ∙ (omega arith)) in
     omega arith
 count_after r state (Commit worker) name h holds t =
     let g = commits_of r state worker h in
     let entries : committed r state.entries (claim_of state.claims worker) ≡ state.entries ++ done_of r (epochs state.entries) g.1 ∷ [] =
-        ap (committed r state.entries) g.2 ∙ ap (with_step r state.entries) g.3 in
+    ap (committed r state.entries) g.2 ∙ ap (with_step r state.entries) g.3 in
     let d : one_if (is_remote_done r (committed r state.entries (claim_of state.claims worker)) name) ≡ one_if
-        (is_remote_done r (state.entries ++ done_of r (epochs state.entries) g.1 ∷ []) name) = ap (λ es. one_if (is_remote_done r es name)) entries in
+    (is_remote_done r (state.entries ++ done_of r (epochs state.entries) g.1 ∷ []) name) = ap (λ es. one_if (is_remote_done r es name)) entries in
     let e = standing_commit name state.claims worker g.0 g.2 in
     let f = count_commit r state worker name holds t g (same_name g.0.name name) refl in
     omega arith
@@ -246,8 +246,8 @@ count_after r state Crash name h holds t = let e = standing_is state.claims name
 count_after r state Reopen name h holds t = let e : standing name state.claims ≡ 0 = ap (standing name) (t.idle (not_so state.running h)) in omega arith
 count_after r state Setup name h holds t =
     let d : one_if (is_remote_done r (set_up state.entries (r.plan (suc (epochs state.entries)))) name) ≡ one_if
-        (is_remote_done r state.entries name) = ap one_if
-        (count_set_up r state.entries (r.plan (suc (epochs state.entries))) name holds) in omega arith
+    (is_remote_done r state.entries name) = ap one_if
+    (count_set_up r state.entries (r.plan (suc (epochs state.entries))) name holds) in omega arith
 
 count_happens : (r : Meanings) (state : Machine) (event : Event) (name : Name) → Holds r state.entries → IsTracked r state
     → Counted r name state (one_if (is_crash event && (enabled r state event && stands state.claims name))) (happens r state event)
@@ -273,7 +273,7 @@ tracked_fresh r plan = record { apart = tt; remote = tt; idle = λ e. refl }
 pub attempts_are : (r : Meanings) → Laws r → (plan : List ℕ) → r.plan 1 ≡ Some plan → (events : List Event) (name : Name)
     → times name (run r (fresh r plan) events).attempts
     ≡ one_if (is_remote_done r (run r (fresh r plan) events).entries name) +
-        (crashes r (fresh r plan) events name + one_if (stands (run r (fresh r plan) events).claims name))
+    (crashes r (fresh r plan) events name + one_if (stands (run r (fresh r plan) events).claims name))
 attempts_are r laws plan is events name =
     let h = count_run r laws (fresh r plan) events name (well_fresh r plan is) (tracked_fresh r plan) in
     let e = standing_is (run r (fresh r plan) events).claims name h.1.apart in

@@ -37,7 +37,7 @@ joined_setup : (r : Meanings) (trees : Mail → List Placed) (entries : List Ent
 joined_setup r trees entries plan joined =
     let after = entries ++ Setup plan ∷ [] in
     same_lists (facts entries ++ flat_map trees (pending r entries)) (flat_map trees (roots_from r 0 entries))
-        (facts after ++ flat_map trees (pending r after)) (flat_map trees (roots_from r 0 after))
+    (facts after ++ flat_map trees (pending r after)) (flat_map trees (roots_from r 0 after))
     (λ i. sym (facts_append entries (Setup plan ∷ []) ∙ append-nil (facts entries)) i ++ flat_map trees (sym (pending_setup r entries plan) i))
     (ap (flat_map trees) (sym (roots_append r 0 entries (Setup plan ∷ []) ∙ append-nil (roots_from r 0 entries))))
     joined
@@ -55,7 +55,7 @@ joined_accept r trees entries number file new fresh joined =
     same_lists ((facts entries ++ waiting) ++ one) (started ++ one) (facts after ++ flat_map trees (pending r after)) (flat_map trees (roots_from r 0 after))
     (append_assoc (facts entries) waiting one
     ∙ (λ i. sym (facts_append entries (entry ∷ []) ∙ append-nil (facts entries)) i
-        ++ (sym (flat_map_append trees (pending r entries) (mail ∷ [])) ∙ ap (flat_map trees) (sym (pending_accept r entries number file new fresh))) i))
+    ++ (sym (flat_map_append trees (pending r entries) (mail ∷ [])) ∙ ap (flat_map trees) (sym (pending_accept r entries number file new fresh))) i))
     (sym (flat_map_append trees (roots_from r 0 entries) (mail ∷ []))
     ∙ ap (flat_map trees) (sym (roots_append r 0 entries (entry ∷ []) ∙ ap (λ e. roots_from r 0 entries ++ r.first e number new ∷ []) (omega arith))))
     (IsPermutation-append_left one (facts entries ++ waiting) started joined)
@@ -69,7 +69,7 @@ regroup a p b c =
 
 joined_done : (r : Meanings) (trees : Mail
     → List Placed) (entries : List Entry) (mail : Mail) (name : Name) (replies : List Reply) (outcome : Outcome) → Holds r entries
-        → Steps r entries name outcome
+    → Steps r entries name outcome
     → Has (pending r entries) mail → mail.name ≡ name → trees mail ≡ placed name outcome.facts ++ flat_map trees outcome.children
     → IsJoined r trees entries → IsJoined r trees (entries ++ Done name replies outcome ∷ [])
 joined_done r trees entries mail name replies outcome holds steps has is unfolds joined =
@@ -90,7 +90,7 @@ joined_done r trees entries mail name replies outcome holds steps has is unfolds
     same_lists ((before ++ own) ++ (others ++ below)) started (facts after ++ flat_map trees (pending r after)) (flat_map trees (roots_from r 0 after))
     (λ i. sym (facts_append entries (entry ∷ []) ∙ ap (λ xs. before ++ xs) (append-nil own)) i
     ++ (sym (flat_map_append trees (without name (pending r entries)) outcome.children) ∙ ap (flat_map trees)
-        (sym (pending_done r entries name replies outcome (children_fresh r entries name replies outcome holds steps)))) i)
+    (sym (pending_done r entries name replies outcome (children_fresh r entries name replies outcome holds steps)))) i)
     (ap (flat_map trees) (sym (roots_append r 0 entries (entry ∷ []) ∙ append-nil (roots_from r 0 entries))))
     (IsPermutation-trans ((before ++ own) ++ (others ++ below)) (before ++ flat_map trees (pending r entries)) started
     (IsPermutation-sym (before ++ flat_map trees (pending r entries)) ((before ++ own) ++ (others ++ below)) moved) joined)
@@ -99,7 +99,7 @@ joined_done r trees entries mail name replies outcome holds steps has is unfolds
 pub tree_of_done : (r : Meanings) → Laws r → (before after : List Entry) (mail : Mail) (name : Name) (replies : List Reply) (outcome : Outcome)
     → is_done before name ≡ false → mail.name ≡ name → r.sound (epochs before) mail ≡ true → outcome ≡ outcome_at r (epochs before) mail
     → tree r (before ++ Done name replies outcome ∷ after) mail ≡ placed name outcome.facts ++ flat_map
-        (tree r (before ++ Done name replies outcome ∷ after)) outcome.children
+    (tree r (before ++ Done name replies outcome ∷ after)) outcome.children
 tree_of_done r laws before after mail name replies outcome waiting is sound stepped =
     let entries = before ++ Done name replies outcome ∷ after in
     let when : era entries mail.name ≡ epochs before = ap (era entries) is ∙ era_at_done before after name replies outcome waiting in

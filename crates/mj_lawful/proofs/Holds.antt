@@ -109,7 +109,7 @@ pub pending_setup : (r : Meanings) (entries : List Entry) (plan : List ℕ) → 
 pending_setup r entries plan =
     ap (undone (entries ++ Setup plan ∷ [])) (births_setup r entries plan)
     ∙ filter_agree (λ mail. not (is_done (entries ++ Setup plan ∷ []) mail.name)) (λ mail. not (is_done entries mail.name))
-        (λ mail. ap not (done_setup entries plan mail.name)) (births r entries)
+    (λ mail. ap not (done_setup entries plan mail.name)) (births r entries)
 
 pub pending_accept : (r : Meanings) (entries : List Entry) (number : ℕ) (file : List ℕ) (new : NewMail)
     → is_done entries (r.first (epochs entries) number new).name ≡ false
@@ -118,7 +118,7 @@ pending_accept r entries number file new fresh =
     let mail = r.first (epochs entries) number new in
     ap (undone (entries ++ Accept number file new ∷ [])) (births_accept r entries number file new)
     ∙ (filter_agree (λ m. not (is_done (entries ++ Accept number file new ∷ []) m.name)) (λ m. not (is_done entries m.name))
-        (λ m. ap not (done_accept entries number file new m.name)) (births r entries ++ mail ∷ [])
+    (λ m. ap not (done_accept entries number file new m.name)) (births r entries ++ mail ∷ [])
     ∙ (filter-append (λ m. not (is_done entries m.name)) (births r entries) (mail ∷ [])
     ∙ ap (λ b. pending r entries ++ cond (not b) (mail ∷ []) []) fresh))
 
@@ -130,7 +130,7 @@ pending_done r entries name replies outcome fresh =
     ap (undone after) (births_done r entries name replies outcome)
     ∙ (filter-append (λ m. not (is_done after m.name)) (births r entries) outcome.children
     ∙ (λ i. ((filter_agree (λ m. not (is_done after m.name)) (λ m. not (is_done entries m.name || same_name name m.name))
-        (λ m. ap not (done_done entries name replies outcome m.name)) (births r entries)
+    (λ m. ap not (done_done entries name replies outcome m.name)) (births r entries)
     ∙ filter_twice (λ m. is_done entries m.name) (λ m. same_name name m.name) (births r entries)) i)
     ++ (filter_keeps (λ m. not (is_done after m.name)) outcome.children
     (all_weaker (λ child. is_done after child.name ≡ false) (λ m. not (is_done after m.name) ≡ true) (λ m e. ap not e) outcome.children fresh) i)))
@@ -147,7 +147,7 @@ holds_setup r entries plan holds fits =
     record {
       sound = subst (λ n. AllByRecursion (λ mail. r.sound n mail ≡ true) (pending r after)) (sym epoch)
           (subst (AllByRecursion (λ mail. r.sound (suc (epochs entries)) mail ≡ true)) (sym (pending_setup r entries plan))
-              (each_of (r.sound (suc (epochs entries))) (pending r entries) fits.sound));
+          (each_of (r.sound (suc (epochs entries))) (pending r entries) fits.sound));
       apart = subst AreApart (sym (births_setup r entries plan)) holds.apart;
       known = subst (AllByRecursion (IsKnown after)) (sym (births_setup r entries plan))
           (all_weaker (IsKnown entries) (IsKnown after) (known_more entries (Setup plan ∷ [])) (births r entries) holds.known);
@@ -162,7 +162,7 @@ unborn_first r laws entries number file new holds fits =
     let named : (r.first (epochs entries) number new).name ≡ first_name number = laws.first_named (epochs entries) number new in
     let next : number ≡ suc (length (accepted entries)) = fits.counted in
     all_weaker (IsKnown entries) (λ other. other.name ≢ (r.first (epochs entries) number new).name)
-        (λ other known e. known_not_next entries other number (omega arith) known (e ∙ named)) (births r entries) holds.known
+    (λ other known e. known_not_next entries other number (omega arith) known (e ∙ named)) (births r entries) holds.known
 
 pub accepted_fresh : (r : Meanings) → Laws r → (entries : List Entry) (number : ℕ) (file : List ℕ) (new : NewMail) → Holds r entries
     → FitsAccept r entries number file new → is_done entries (r.first (epochs entries) number new).name ≡ false
@@ -187,11 +187,11 @@ holds_accept r laws entries number file new holds fits =
       sound = subst (λ n. AllByRecursion (λ m. r.sound n m ≡ true) (pending r after)) (sym epoch)
           (subst (AllByRecursion (λ m. r.sound (epochs entries) m ≡ true)) (sym (pending_accept r entries number file new there))
           (all_append (λ m. r.sound (epochs entries) m ≡ true) (pending r entries) (mail ∷ []) holds.sound
-              (laws.first_sound (epochs entries) number new fits.acceptable, tt)));
+          (laws.first_sound (epochs entries) number new fits.acceptable, tt)));
       apart = subst AreApart (sym (births_accept r entries number file new))
           (apart_append (births r entries) (mail ∷ []) holds.apart (tt, tt)
           (all_weaker (λ other. other.name ≢ mail.name) (λ x. AllByRecursion (λ y. y.name ≢ x.name) (mail ∷ [])) (λ x ne. (λ e. ne (sym e), tt))
-              (births r entries) fresh));
+          (births r entries) fresh));
       known = subst (AllByRecursion (IsKnown after)) (sym (births_accept r entries number file new))
           (all_append (IsKnown after) (births r entries) (mail ∷ [])
           (all_weaker (IsKnown entries) (IsKnown after) (known_more entries (entry ∷ [])) (births r entries) holds.known)
@@ -207,9 +207,11 @@ IsChildFrom name k mail = (i : ℕ) × (k ≤ i) × (mail.name ≡ child_name na
 
 numbered_are : (name : Name) (k : ℕ) (mails : List Mail) → AreNumbered name k mails → AllByRecursion (IsChildFrom name k) mails
 numbered_are name k [] h = tt
-numbered_are name k (m ∷ mails) h =
-    ((k, (omega arith), h.0), all_weaker (IsChildFrom name (k + 1)) (IsChildFrom name k)
-        (λ x g. (g.0, (let le : k + 1 ≤ g.0 = g.1 in omega arith), g.2)) mails (numbered_are name (k + 1) mails h.1))
+numbered_are name k (m ∷ mails) h = (
+  (k, (omega arith), h.0),
+  all_weaker (IsChildFrom name (k + 1)) (IsChildFrom name k)
+      (λ x g. (g.0, (let le : k + 1 ≤ g.0 = g.1 in omega arith), g.2)) mails (numbered_are name (k + 1) mails h.1),
+)
 
 numbered_apart : (name : Name) (k : ℕ) (mails : List Mail) → AreNumbered name k mails → AreApart mails
 numbered_apart name k [] h = tt
@@ -237,7 +239,7 @@ steps_of r laws entries name replies outcome holds fits =
     let mail = fits.mail in
     let sound = all_has (λ m. r.sound (epochs entries) m ≡ true) (pending r entries) mail holds.sound fits.waits in
     let unfinished = all_has (λ m. not (is_done entries m.name) ≡ true) (pending r entries) mail
-        (filter_true (λ m. not (is_done entries m.name)) (births r entries)) fits.waits in
+    (filter_true (λ m. not (is_done entries m.name)) (births r entries)) fits.waits in
     record {
       waiting = subst (λ n. is_done entries n ≡ false) fits.named (not_true (is_done entries mail.name) unfinished);
       there = subst (IsBorn (births r entries)) fits.named (born_has (λ m. not (is_done entries m.name)) (births r entries) mail fits.waits);
@@ -256,7 +258,7 @@ children_fresh r entries name replies outcome holds steps =
     (λ child g.
     let unborn : AllByRecursion (λ other. other.name ≢ child.name) (births r entries) =
     all_weaker (IsKnown entries) (λ other. other.name ≢ child.name)
-        (λ other known e. known_not_child entries other name g.0 steps.waiting known (e ∙ g.2)) (births r entries) holds.known in
+    (λ other known e. known_not_child entries other name g.0 steps.waiting known (e ∙ g.2)) (births r entries) holds.known in
     let early = not_done r entries holds child.name unborn in
     let other = differs name child.name (λ e. name_is_not_child name g.0 (e ∙ g.2)) in
     done_done entries name replies outcome child.name ∙ (λ i. early i || other i))
@@ -274,14 +276,14 @@ holds_done r entries name replies outcome holds steps =
     record {
       sound = subst (λ n. AllByRecursion (λ m. r.sound n m ≡ true) (pending r after)) (sym epoch)
           (subst (AllByRecursion (λ m. r.sound (epochs entries) m ≡ true))
-              (sym (pending_done r entries name replies outcome (children_fresh r entries name replies outcome holds steps)))
+          (sym (pending_done r entries name replies outcome (children_fresh r entries name replies outcome holds steps)))
           (all_append (λ m. r.sound (epochs entries) m ≡ true) (without name (pending r entries)) children
           (all_filter (λ m. r.sound (epochs entries) m ≡ true) (λ other. not (same_name name other.name)) (pending r entries) holds.sound) steps.sound));
       apart = subst AreApart (sym (births_done r entries name replies outcome))
           (apart_append (births r entries) children holds.apart (numbered_apart name 1 children steps.numbered)
           (all_weaker (IsKnown entries) (λ x. AllByRecursion (λ y. y.name ≢ x.name) children)
           (λ x known. all_weaker (IsChildFrom name 1) (λ y. y.name ≢ x.name)
-              (λ y g e. known_not_child entries x name g.0 steps.waiting known (sym e ∙ g.2)) children are)
+          (λ y g e. known_not_child entries x name g.0 steps.waiting known (sym e ∙ g.2)) children are)
           (births r entries) holds.known));
       known = subst (AllByRecursion (IsKnown after)) (sym (births_done r entries name replies outcome))
           (all_append (IsKnown after) (births r entries) children
@@ -289,7 +291,7 @@ holds_done r entries name replies outcome holds steps =
           (all_weaker (IsChildFrom name 1) (IsKnown after) (λ child g. inr (name, g.0, now_done, g.2)) children are));
       born = λ other done. subst (λ ms. IsBorn ms other) (sym (births_done r entries name replies outcome))
           (born_left (births r entries) children other (born_by other (is_done entries other) refl
-              (sym (done_done entries name replies outcome other) ∙ done)));
+          (sym (done_done entries name replies outcome other) ∙ done)));
       counted = subst (AreCountedFrom 1) (sym (accepted_same r entries entry refl)) holds.counted;
     }
   where

@@ -2,6 +2,7 @@ pub mod Attempts
 pub mod Behind
 pub mod Counts
 pub mod Cut
+pub mod Due
 pub mod Follow
 pub mod Holds
 pub mod Laws

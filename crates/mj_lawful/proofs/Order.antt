@@ -75,7 +75,7 @@ children_under f under name k (child ∷ children) h =
     all_append (IsUnderFrom name k) (f child) (flat_map f children)
     (all_weaker (IsUnder child.name) (IsUnderFrom name k) (λ p u. under_from_child name k p (subst (λ n. IsUnder n p) h.0 u)) (f child) (under child))
     (all_weaker (IsUnderFrom name (k + 1)) (IsUnderFrom name k) (from_more name k (k + 1) (omega arith)) (flat_map f children)
-        (children_under f under name (k + 1) children h.1))
+    (children_under f under name (k + 1) children h.1))
 
 pub tree_under : (step : Mail → Outcome) → IsNamed step → (n : ℕ) (mail : Mail) → AllByRecursion (IsUnder mail.name) (gather_within (facts_of step) step n mail)
 tree_under step named zero mail = tt
@@ -105,7 +105,7 @@ by_path : (p q : Placed) → p.name.number ≡ q.name.number → slice_cmp nat_c
 by_path p q e h =
     then_first (name_cmp p.name q.name) (nat_cmp p.number q.number)
     (then_second (nat_cmp p.name.number q.name.number) (slice_cmp nat_cmp p.name.path q.name.path) Less
-        (ap (λ n. nat_cmp p.name.number n) (sym e) ∙ nat_tied p.name.number) h)
+    (ap (λ n. nat_cmp p.name.number n) (sym e) ∙ nat_tied p.name.number) h)
 
 -- the mail's own facts stand before those of its children
 own_before : (name : Name) (p q : Placed) → p.name ≡ name → IsUnderFrom name 1 q → IsBelow p q
@@ -119,15 +119,17 @@ child_before name k p q u v =
     let a = under_from_child name k p u in
     by_path p q (u.1 ∙ sym v.3)
     ((λ i. slice_cmp nat_cmp ((u.2 ∙ append_assoc name.path (k ∷ []) u.0) i) (v.4 i))
-        ∙ (front name.path (k ∷ u.0) (v.0 ∷ v.1) ∙ then_first (nat_cmp k v.0) (slice_cmp nat_cmp u.0 v.1)
-            (nat_below k v.0 (let g : k + 1 ≤ v.0 = v.2 in omega arith))))
+    ∙ (front name.path (k ∷ u.0) (v.0 ∷ v.1) ∙ then_first (nat_cmp k v.0) (slice_cmp nat_cmp u.0 v.1)
+    (nat_below k v.0 (let g : k + 1 ≤ v.0 = v.2 in omega arith))))
 
 placed_before : (name : Name) (k : ℕ) (facts : List Fact) (ys : List Placed) → AllByRecursion (IsUnderFrom name 1) ys
     → AllByRecursion (λ x. AllByRecursion (IsBelow x) ys) (placed_from name k facts)
 placed_before name k [] ys h = tt
-placed_before name k (fact ∷ facts) ys h =
-    (all_weaker (IsUnderFrom name 1) (IsBelow (record { name = name; number = k; fact = fact }))
-        (λ q u. own_before name (record { name = name; number = k; fact = fact }) q refl u) ys h, placed_before name (k + 1) facts ys h)
+placed_before name k (fact ∷ facts) ys h = (
+  all_weaker (IsUnderFrom name 1) (IsBelow (record { name = name; number = k; fact = fact }))
+      (λ q u. own_before name (record { name = name; number = k; fact = fact }) q refl u) ys h,
+  placed_before name (k + 1) facts ys h,
+)
 
 children_in_order : (f : Mail → List Placed) → ((mail : Mail) → AllByRecursion (IsUnder mail.name) (f mail)) → ((mail : Mail) → AreInOrder (f mail))
     → (name : Name) (k : ℕ) (children : List Mail) → AreNumbered name k children → AreInOrder (flat_map f children)
@@ -136,7 +138,7 @@ children_in_order f under ordered name k (child ∷ children) h =
     in_order_append (f child) (flat_map f children) (ordered child) (children_in_order f under ordered name (k + 1) children h.1)
     (all_weaker (IsUnder child.name) (λ x. AllByRecursion (IsBelow x) (flat_map f children))
     (λ p u. all_weaker (IsUnderFrom name (k + 1)) (IsBelow p) (λ q v. child_before name k p q (subst (λ n. IsUnder n p) h.0 u) v)
-        (flat_map f children) (children_under f under name (k + 1) children h.1))
+    (flat_map f children) (children_under f under name (k + 1) children h.1))
     (f child) (under child))
 
 pub tree_in_order : (step : Mail → Outcome) → IsNamed step → (n : ℕ) (mail : Mail) → AreInOrder (gather_within (facts_of step) step n mail)
@@ -145,7 +147,7 @@ tree_in_order step named (suc n) mail =
     in_order_append (placed mail.name (step mail).facts) (flat_map (gather_within (facts_of step) step n) (step mail).children)
     (placed_in_order mail.name 1 (step mail).facts)
     (children_in_order (gather_within (facts_of step) step n) (tree_under step named n) (tree_in_order step named n) mail.name 1 (step mail).children
-        (named mail))
+    (named mail))
     (placed_before mail.name 1 (step mail).facts (flat_map (gather_within (facts_of step) step n) (step mail).children)
     (children_under (gather_within (facts_of step) step n) (tree_under step named n) mail.name 1 (step mail).children (named mail)))
 
@@ -156,7 +158,7 @@ IsFrom k p = k ≤ p.name.number
 by_number : (p q : Placed) → p.name.number < q.name.number → IsBelow p q
 by_number p q h =
     then_first (name_cmp p.name q.name) (nat_cmp p.number q.number)
-        (then_first (nat_cmp p.name.number q.name.number) (slice_cmp nat_cmp p.name.path q.name.path) (nat_below p.name.number q.name.number h))
+    (then_first (nat_cmp p.name.number q.name.number) (slice_cmp nat_cmp p.name.path q.name.path) (nat_below p.name.number q.name.number h))
 
 -- first mails under numbers from k on, one after the other
 abbrev pub AreFirstFrom : ℕ → List Mail → Type 0

@@ -93,12 +93,12 @@ take_out f (m ∷ mails) mail apart (inl e) =
     (ap (λ ms. f m ++ flat_map f ms) (sym (ap (λ b. cond (not b) (m ∷ without m.name mails) (without m.name mails)) (same_itself m.name)
     ∙ filter_keeps (λ other. not (same_name m.name other.name)) mails
     (all_weaker (λ other. other.name ≢ m.name) (λ other. not (same_name m.name other.name) ≡ true)
-        (λ other ne. ap not (differs m.name other.name (λ q. ne (sym q)))) mails apart.0)))))
+    (λ other ne. ap not (differs m.name other.name (λ q. ne (sym q)))) mails apart.0)))))
 take_out f (m ∷ mails) mail apart (inr g) =
     let others = flat_map f (without mail.name mails) in
     let ne = all_has (λ other. other.name ≢ m.name) mails mail apart.0 g in
     let kept : without mail.name (m ∷ mails) ≡ m ∷ without mail.name mails =
-        ap (λ b. cond (not b) (m ∷ without mail.name mails) (without mail.name mails)) (differs mail.name m.name ne) in
+    ap (λ b. cond (not b) (m ∷ without mail.name mails) (without mail.name mails)) (differs mail.name m.name ne) in
     subst (λ ms. IsPermutation (f m ++ flat_map f mails) (f mail ++ flat_map f ms)) (sym kept)
     (IsPermutation-trans (f m ++ flat_map f mails) (f m ++ (f mail ++ others)) (f mail ++ (f m ++ others))
     (IsPermutation-append_right (f m) (flat_map f mails) (f mail ++ others) (take_out f mails mail apart.1 g))
