@@ -39,6 +39,9 @@ Shapes:
               user time of an append of 200 bytes; the time to open a log of 1,000,000 payloads of 200 bytes against
               that of 100,000, and the reads and the peak memory a payload; and the time to open one of payloads of
               65,536 bytes against cat's
+  records     an entry of a journal that is written many times, and one that is read many times, each above a run that makes
+              the entry alone: the GB/s of one with a body of 16 MiB; and each against the first of its pair: one with a
+              head of one field, and with 13,000 fields of the same length; one with 1 recipient, and with 500
 
 A round runs every folder of a shape once, one after the other, so that what slows the machine for a while slows them
 alike. Each time is the wall clock's, the best of the rounds; each ratio is the median of the rounds' own. The files are
@@ -46,7 +49,8 @@ in the page cache, and a run begins with nothing but `conf` and `mails` in its f
 ru_maxrss; it can't be told below that of the shell that starts the program (about 1 MiB). MB are 1,000,000 bytes. An
 empty run has a folder without mails. `cat` is started by `xargs -0`, which takes several of them for more than some ten
 thousand files. `toml` alone is the program of crates/toml_yardstick, which reads the file and parses it; the queue's is that
-of crates/ready_bench, the log's that of crates/log_bench. The C compiler `cc` makes the log's yardstick.
+of crates/ready_bench, the log's that of crates/log_bench, the records' that of crates/record_bench. The C compiler `cc` makes
+the log's yardstick.
 
 The status is 1 where a run doesn't end with status 0, doesn't report one line a mail, or refuses a mail. Linux only.
 By default some 500 MB are needed in the temporary directory (TMPDIR says where), which `log` wants on a disk, and 600 MB in
@@ -185,9 +189,11 @@ PROGRAM = CRATES / "james_cli/out/james_cli"
 YARDSTICK = CRATES / "toml_yardstick/out/toml_yardstick"
 QUEUE = CRATES / "ready_bench/out/ready_bench"
 LOG = CRATES / "log_bench/out/log_bench"
+RECORDS = CRATES / "record_bench/out/record_bench"
 APPEND = Path(__file__).resolve().parent / "append.c"
 IN_MEMORY = Path("/dev/shm")
-SHAPES = ("small", "large", "rate", "heads", "recipients", "hops", "processors", "matching", "mailets", "remote", "plan", "queue", "log")
+SHAPES = ("small", "large", "rate", "heads", "recipients", "hops", "processors", "matching", "mailets", "remote", "plan", "queue", "log",
+          "records")
 
 MAX_FILE = 16_777_216
 LONG_HEAD = 65_000
@@ -416,6 +422,7 @@ class Bench:
         self.yardstick = given.yardstick.resolve()
         self.ready = given.queue.resolve()
         self.log_program = given.log.resolve()
+        self.record_program = given.records.resolve()
         self.rounds = given.rounds
         self.keep = given.keep
         self.mails = given.mails
@@ -880,6 +887,33 @@ class Bench:
     def open_once(self, file):
         return self.run_log([self.log_program, "open", file])
 
+    def records(self):
+        self.large_record()
+        title("records: written and read", "time", "by the first")
+        self.records_of(("one field", "13,000 fields"), 200, ("fields", 1, LONG_HEAD), ("fields", LONG_HEAD // 5, LONG_HEAD))
+        self.records_of(("1 recipient", "500 recipients"), 2_000, ("recipients", 1), ("recipients", 500))
+
+    def large_record(self):
+        """An entry with a body of the greatest size. Its bytes are counted once for writing, and once for reading."""
+        count = 20
+        title("records: a body of 16 MiB", "an entry", "GB/s")
+        for way in ("write", "read"):
+            rounds = self.measure(*[lambda turns=turns: self.record_once(way, turns, "body", MAX_FILE) for turns in (count, 0)])
+            seconds = statistics.median(each[0].seconds - each[1].seconds for each in rounds) / count
+            row(way, f"{seconds * 1000:.1f} ms", f"{MAX_FILE / seconds / 1e9:.2f}")
+
+    def records_of(self, names, count, *shapes):
+        for way in ("write", "read"):
+            runs = [(way, turns, *shape) for turns in (count, 0) for shape in shapes]
+            rounds = self.measure(*[lambda words=words: self.record_once(*words) for words in runs])
+            self.row_pair([f"{way} {count:,}, {name}" for name in names], rounds, above=(2, 3))
+
+    def record_once(self, *words):
+        status, run = run_program(self.record_program, [str(word) for word in words], self.root / "records", self.root)
+        if status != 0:
+            raise Fault(f"status {status} of {self.record_program} {' '.join(map(str, words))}")
+        return run
+
     def run_log(self, command):
         program, *words = map(str, command)
         status, run = run_program(program, words, self.root / "log.says", self.root)
@@ -904,12 +938,14 @@ def arguments():
                         help="the built program that fills and empties a due queue (default: that of crates/ready_bench)")
     parser.add_argument("--log", type=Path, default=LOG, metavar="PATH",
                         help="the built program that adds to a log and opens it (default: that of crates/log_bench)")
+    parser.add_argument("--records", type=Path, default=RECORDS, metavar="PATH",
+                        help="the built program that writes and reads entries (default: that of crates/record_bench)")
     parser.add_argument("--keep", action="store_true", help="keep the folders and say where they are")
     given = parser.parse_args()
     if given.mails < 1 or given.size < 0 or given.rounds < 1:
         parser.error("N and ROUNDS are at least 1, BYTES at least 0")
     given.shape = given.shape or SHAPES
-    of_shapes = {"plan": given.yardstick, "remote": given.yardstick, "queue": given.queue, "log": given.log}
+    of_shapes = {"plan": given.yardstick, "remote": given.yardstick, "queue": given.queue, "log": given.log, "records": given.records}
     programs = [given.james] + [program for shape, program in of_shapes.items() if shape in given.shape]
     for program in programs:
         if not os.access(program, os.X_OK):

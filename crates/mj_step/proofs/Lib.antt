@@ -1,1 +1,2 @@
 mod Replied
+mod Seen

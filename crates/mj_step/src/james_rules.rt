@@ -3,11 +3,12 @@ ghost use Rattle.std.specs.List.{list_all};
 ghost use Rattle.mj_plan.specs.Sound.{IsSound};
 ghost use Rattle.mj_answers.specs.Places.{has_reply};
 
+use crate::staging::has_stage;
 use crate::stepping::step;
 use mj_address::{Address, Domain};
 use mj_answers::Answers;
 use mj_fields::{Items, Memory};
-use mj_mail::{Mail, NewMail, Outcome, Reply, Rules};
+use mj_mail::{Mail, NewMail, Outcome, Reply, Rules, Stages};
 use mj_plan::Plan;
 use std::alloc::Global;
 
@@ -76,4 +77,19 @@ impl Rules for JamesRules {
     ghost stays = { λ rules mail sound. laws.stays rules.plan rules.sound (reply_for rules.answers) (reply_for_formed rules.answers rules.formed) mail sound };
 
     ghost done_small = { λ rules mail sound. laws.done_small rules.plan rules.sound (reply_for rules.answers) (reply_for_formed rules.answers rules.formed) mail sound };
+}
+
+impl Stages for JamesRules {
+    ghost use Rattle.mj_container.specs.Stages.{has_stage};
+    ghost use Rattle.mj_container.proofs.Stages as stages;
+
+    ghost is_allowed = { λ rules mail. has_stage rules.plan mail.stage };
+
+    fn allows(&self, mail: &Mail) -> bool {
+        has_stage(&self.plan, &mail.stage)
+    }
+
+    ghost sound_allowed = { λ rules mail sound. stages.sound_allowed rules.plan mail sound };
+
+    ghost allowed_sound = { λ rules others mail sound allowed. stages.allowed_sound rules.plan others.plan mail sound allowed };
 }

@@ -2,6 +2,7 @@
 #![tactic(auto)]
 
 mod james_rules;
+mod staging;
 mod stepping;
 
 pub use james_rules::JamesRules;

@@ -1,5 +1,5 @@
 //! What mappings make of an address, and of recipients.
-use crate::plans::{assert_said, plan_of, resolved, rewritten};
+use crate::plans::{assert_resolved, assert_rewritten, plan_of};
 use std::alloc::{AllocError, Global};
 use std::test::Fail;
 
@@ -65,11 +65,7 @@ const RESOLVED: [(&str, &str); 17] = [
 #[test]
 fn addresses(rt: HostRuntime) -> Result<(), Fail> {
     let plan = plan_of(rt.alloc(), MAPPINGS.as_bytes())?;
-    for (address, want) in RESOLVED {
-        let said = resolved(rt.alloc(), &plan, address)?;
-        assert_said(&rt, &said, want, address);
-    }
-    Ok(())
+    assert_resolved(&rt, &plan, &RESOLVED)
 }
 
 /// The mappings without the last.
@@ -87,9 +83,7 @@ fn without_the_eleventh(alloc: Global) -> Result<Vec<u8>, AllocError> {
 fn ten_in_a_row(rt: HostRuntime) -> Result<(), Fail> {
     let mappings = without_the_eleventh(rt.alloc())?;
     let plan = plan_of(rt.alloc(), &mappings)?;
-    let said = resolved(rt.alloc(), &plan, "c0@chain.test")?;
-    assert_said(&rt, &said, "c10@chain.test", "c0@chain.test");
-    Ok(())
+    assert_resolved(&rt, &plan, &[("c0@chain.test", "c10@chain.test")])
 }
 
 /// Recipients, and what they become.
@@ -117,9 +111,5 @@ const REWRITTEN: [(&str, &str); 6] = [
 #[test]
 fn recipients(rt: HostRuntime) -> Result<(), Fail> {
     let plan = plan_of(rt.alloc(), MAPPINGS.as_bytes())?;
-    for (recipients, want) in REWRITTEN {
-        let said = rewritten(rt.alloc(), &plan, recipients)?;
-        assert_said(&rt, &said, want, recipients);
-    }
-    Ok(())
+    assert_rewritten(&rt, &plan, &REWRITTEN)
 }

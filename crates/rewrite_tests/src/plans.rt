@@ -15,7 +15,11 @@ const BACK: &str =
 pub(crate) fn plan_of(alloc: Global, mappings: &[u8]) -> Result<Plan, Fail> {
     let mut text = Vec::from_slice(alloc, mappings)?;
     text.extend_from_slice(BACK.as_bytes())?;
-    match read_plan(alloc, &text) {
+    read(alloc, &text)
+}
+
+fn read(alloc: Global, text: &[u8]) -> Result<Plan, Fail> {
+    match read_plan(alloc, text) {
         Ok(plan) => Ok(plan),
         Err(fault) => Err(Fail::from(fault)),
     }
@@ -47,7 +51,7 @@ fn fault_text(alloc: Global, fault: &RewriteFault) -> Result<Vec<u8>, Fail> {
 }
 
 /// What the address becomes.
-pub(crate) fn resolved(alloc: Global, plan: &Plan, address: &str) -> Result<Vec<u8>, Fail> {
+fn resolved(alloc: Global, plan: &Plan, address: &str) -> Result<Vec<u8>, Fail> {
     let address = Address::read(alloc, address.as_bytes())?;
     match resolve(alloc, plan, &address) {
         Ok(all) => listed(alloc, all.as_slice()),
@@ -69,6 +73,32 @@ pub(crate) fn rewritten(alloc: Global, plan: &Plan, recipients: &str) -> Result<
 }
 
 /// Fails where this isn't what is wanted of the case.
-pub(crate) fn assert_said(rt: &impl Abort, said: &[u8], want: &str, case: &str) {
+fn assert_said(rt: &impl Abort, said: &[u8], want: &str, case: &str) {
     assert!(rt; said == want.as_bytes(), "at {case:?}");
+}
+
+/// Fails where one of these addresses doesn't become what stands beside it.
+pub(crate) fn assert_resolved(
+    rt: &(impl Abort + AllocGlobal),
+    plan: &Plan,
+    rows: &[(&str, &str)],
+) -> Result<(), Fail> {
+    for (address, want) in rows {
+        let said = resolved(rt.alloc(), plan, address)?;
+        assert_said(rt, &said, want, address);
+    }
+    Ok(())
+}
+
+/// Fails where these recipients, a space between each two, don't become what stands beside them.
+pub(crate) fn assert_rewritten(
+    rt: &(impl Abort + AllocGlobal),
+    plan: &Plan,
+    rows: &[(&str, &str)],
+) -> Result<(), Fail> {
+    for (recipients, want) in rows {
+        let said = rewritten(rt.alloc(), plan, recipients)?;
+        assert_said(rt, &said, want, recipients);
+    }
+    Ok(())
 }

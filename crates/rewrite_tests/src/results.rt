@@ -1,6 +1,8 @@
 //! How many results there may be.
-use crate::plans::{assert_said, plan_of, resolved, rewritten};
+use crate::plans::{assert_resolved, assert_rewritten, plan_of, rewritten};
+use mj_plan::Plan;
 use std::alloc::{AllocError, Global};
+use std::process::Abort;
 use std::test::Fail;
 
 /// Mappings of `fewer` to five others, of `more` to these and one address beside them, and of each of the five to a
@@ -37,27 +39,37 @@ fn hundred(text: &mut Vec<u8>, group: u8) -> Result<(), AllocError> {
     Ok(())
 }
 
+/// 500 equal results, and the 501st.
+const EQUAL: [(&str, &str); 2] = [
+    ("fewer@example.org", "rx@example.net"),
+    ("more@example.org", "!TooMany"),
+];
+
+/// The 501st recipient.
+const DIFFERENT: [(&str, &str); 1] = [("fewer@example.org zed@example.org", "!TooMany")];
+
 /// How many addresses the text lists.
 fn count(text: &[u8]) -> usize {
     text.iter().filter(|byte| **byte == b'@').count()
 }
 
+/// Fails unless 500 recipients are taken, and 501 aren't.
+fn assert_counts(rt: &(impl Abort + AllocGlobal), plan: &Plan) -> Result<(), Fail> {
+    let fewer = rewritten(rt.alloc(), plan, "fewer@example.org R000@example.net")?;
+    assert!(rt; count(&fewer) == 500, "500 recipients");
+    assert_rewritten(rt, plan, &DIFFERENT)
+}
+
 #[test]
 fn equal_results(rt: HostRuntime) -> Result<(), Fail> {
-    let plan = plan_of(rt.alloc(), &mappings(rt.alloc(), true)?)?;
-    let fewer = resolved(rt.alloc(), &plan, "fewer@example.org")?;
-    assert_said(&rt, &fewer, "rx@example.net", "500 equal results");
-    let more = resolved(rt.alloc(), &plan, "more@example.org")?;
-    assert_said(&rt, &more, "!TooMany", "the 501st result");
-    Ok(())
+    let mappings = mappings(rt.alloc(), true)?;
+    let plan = plan_of(rt.alloc(), &mappings)?;
+    assert_resolved(&rt, &plan, &EQUAL)
 }
 
 #[test]
 fn different_results(rt: HostRuntime) -> Result<(), Fail> {
-    let plan = plan_of(rt.alloc(), &mappings(rt.alloc(), false)?)?;
-    let fewer = rewritten(rt.alloc(), &plan, "fewer@example.org R000@example.net")?;
-    assert!(&rt; count(&fewer) == 500, "500 recipients");
-    let more = rewritten(rt.alloc(), &plan, "fewer@example.org zed@example.org")?;
-    assert_said(&rt, &more, "!TooMany", "the 501st recipient");
-    Ok(())
+    let mappings = mappings(rt.alloc(), false)?;
+    let plan = plan_of(rt.alloc(), &mappings)?;
+    assert_counts(&rt, &plan)
 }

@@ -1,0 +1,4 @@
+pub mod Ascending
+pub mod Fronts
+pub mod NextFields
+pub mod Turns
