@@ -153,14 +153,17 @@ fn fill<F: Read>(file: &mut F, buffer: &mut [u8], from: usize) -> io::Result<usi
     Ok(filled)
 }
 
-/// The bytes of the file, at most `limit`, where it is likely to have fewer than `room`.
-fn read_bytes<F: Read>(
-    alloc: Global,
-    file: &mut F,
-    room: usize,
-    limit: usize,
-) -> io::Result<Vec<u8>> {
-    let mut bytes = vec![in alloc; 0u8; room.min(limit)]?;
+/// The first `size` bytes of the file, or all of them if it has fewer.
+fn read_sized<F: Read>(alloc: Global, file: &mut F, size: usize) -> io::Result<Vec<u8>> {
+    let mut bytes = vec![in alloc; 0u8; size]?;
+    let filled = fill(file, &mut bytes, 0)?;
+    bytes.truncate(filled);
+    Ok(bytes)
+}
+
+/// The bytes of a file that doesn't say its size, at most `limit`.
+fn read_unsized<F: Read>(alloc: Global, file: &mut F, limit: usize) -> io::Result<Vec<u8>> {
+    let mut bytes = vec![in alloc; 0u8; FIRST_ROOM.min(limit)]?;
     let mut filled = 0;
     for _ in 0..u64::BITS {
         filled = fill(file, &mut bytes, filled)?;
@@ -185,13 +188,13 @@ fn read_file<E: rt::Files>(
         Err(e) if is_missing(&e) => return Ok(None),
         Err(e) => return Err(e),
     };
-    let size = file.metadata()?.len();
-    let room = if size == 0 {
-        FIRST_ROOM
+    let size = usize::try_from(file.metadata()?.len()).unwrap_or(limit);
+    let bytes = if size == 0 {
+        read_unsized(alloc, &mut file, limit)?
     } else {
-        usize::try_from(size).unwrap_or(limit).saturating_add(1)
+        read_sized(alloc, &mut file, size.min(limit))?
     };
-    Ok(Some(read_bytes(alloc, &mut file, room, limit)?))
+    Ok(Some(bytes))
 }
 
 impl<E: rt::Files + AllocGlobal + Eprint + Clone + Drop> Files for FolderFiles<E> {
