@@ -40,8 +40,9 @@ Shapes:
               that of 100,000, and the reads and the peak memory a payload; and the time to open one of payloads of
               65,536 bytes against cat's
   records     an entry of a journal that is written many times, and one that is read many times, each above a run that makes
-              the entry alone: the GB/s of one with a body of 16 MiB; and each against the first of its pair: one with a
-              head of one field, and with 13,000 fields of the same length; one with 1 recipient, and with 500
+              the entry alone: the GB/s of one with a body of 16 MiB; and written, read and both together, each against
+              the first of its pair: one with a head of one field, and with 13,000 fields of the same length; one with 1
+              recipient, and with 500
 
 A round runs every folder of a shape once, one after the other, so that what slows the machine for a while slows them
 alike. Each time is the wall clock's, the best of the rounds; each ratio is the median of the rounds' own. The files are
@@ -903,10 +904,15 @@ class Bench:
             row(way, f"{seconds * 1000:.1f} ms", f"{MAX_FILE / seconds / 1e9:.2f}")
 
     def records_of(self, names, count, *shapes):
-        for way in ("write", "read"):
-            runs = [(way, turns, *shape) for turns in (count, 0) for shape in shapes]
-            rounds = self.measure(*[lambda words=words: self.record_once(*words) for words in runs])
-            self.row_pair([f"{way} {count:,}, {name}" for name in names], rounds, above=(2, 3))
+        """The times of writing an entry so often, of reading it, and of both together."""
+        runs = [(way, turns, *shape) for way in ("write", "read") for turns in (count, 0) for shape in shapes]
+        rounds = self.measure(*[lambda words=words: self.record_once(*words) for words in runs])
+        for what, places in (("write", (0,)), ("read", (4,)), ("both", (0, 4))):
+            taken = [[sum(each[place + at].seconds - each[place + at + 2].seconds for place in places) for each in rounds]
+                     for at in range(2)]
+            for name, seconds in zip(names, taken):
+                by_first = statistics.median(one / first for one, first in zip(seconds, taken[0]))
+                row(f"{what} {count:,}, {name}", f"{statistics.median(seconds) * 1000:.1f} ms", times(by_first))
 
     def record_once(self, *words):
         status, run = run_program(self.record_program, [str(word) for word in words], self.root / "records", self.root)

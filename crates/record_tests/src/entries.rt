@@ -23,10 +23,18 @@ fn has(alloc: Global, entry: &Entry, bytes: &[u8]) -> Result<bool, Memory>
     Ok(written.as_slice() == bytes && len == bytes.len() as u64)
 }
 
-/// Whether these are the bytes of the sample.
+/// Whether a copy of the entry has these bytes.
+fn has_copied(alloc: Global, entry: &Entry, bytes: &[u8]) -> Result<bool, Memory>
+    requires { is_whole entry.now ≡ true }
+{
+    let copy = entry.copy(alloc)?;
+    has(alloc, &copy, bytes)
+}
+
+/// Whether these are the bytes of the sample, and of a copy of it.
 fn is_written(alloc: Global, sample: Sample, bytes: &[u8]) -> Result<bool, Fail> {
     let entry = entry_of(alloc, sample)?;
-    Ok(has(alloc, &entry, bytes)?)
+    Ok(has(alloc, &entry, bytes)? && has_copied(alloc, &entry, bytes)?)
 }
 
 /// Whether the bytes are an entry, which has the same bytes again.
