@@ -16,7 +16,7 @@ use mj_head::{Head, HeadBuilder};
 use mj_mail::{Attributes, MAX_ATTRIBUTES, Name};
 use std::alloc::{AllocError, Global};
 
-/// A name.
+/// A name: its number and its path. `Bad` where the bytes end within it, `Memory` without room.
 pub fn take_name(reader: &mut Reader) -> Result<Name, EntryFault>
     ensures { Takes result (name_in reader.old) reader.new }
 {
@@ -38,7 +38,7 @@ fn take_path(reader: &mut Reader) -> Result<Items<u32>, EntryFault>
     Ok(path)
 }
 
-/// Recipients, one at least.
+/// Recipients, one at least, no two the same. `Bad` where these are none, `Memory` without room.
 pub fn take_recipients(reader: &mut Reader) -> Result<Recipients, EntryFault>
     ensures { Takes result (recipients_in reader.old) reader.new }
 {
@@ -65,7 +65,8 @@ fn take_different(reader: &mut Reader) -> Result<Recipients, EntryFault>
     Ok(recipients)
 }
 
-/// Attributes: few enough, with the names in ascending order.
+/// Attributes: at most [`MAX_ATTRIBUTES`], with the names in ascending byte order. `Bad` where these are none, `Memory` without
+/// room.
 #[tactic(auto, using(crate::proofs::Turns::one_more, crate::proofs::Turns::none_more, crate::proofs::Turns::unfit_more))]
 pub fn take_attributes(reader: &mut Reader) -> Result<Attributes, EntryFault>
     ensures { Takes result (attributes_in reader.old) reader.new }
@@ -117,7 +118,7 @@ fn is_behind(attributes: &[(Bytes, Bytes)], name: &[u8]) -> bool
     }
 }
 
-/// A head: fields that make one. Each costs its bytes alone.
+/// A head: fields that make one (RFC 5322, 2.2). Each costs its bytes alone. `Bad` where they make none, `Memory` without room.
 #[tactic(auto, using(crate::proofs::Turns::one_more, crate::proofs::Turns::none_more, crate::proofs::Turns::unfit_more))]
 pub fn take_head(reader: &mut Reader) -> Result<Head, EntryFault>
     ensures { Takes result (head_in reader.old) reader.new }

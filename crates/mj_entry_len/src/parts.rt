@@ -50,7 +50,7 @@ pub(crate) fn recipients_len(recipients: &Recipients) -> u64
 }
 
 /// How many bytes a head has: four for the number of its fields, and of each field the name and the raw body behind their
-/// lengths, where the written form (RFC 5322, 2.2) has a colon and a CRLF. It goes over the fields.
+/// lengths, where the written form (RFC 5322, 2.2) has a colon and a CRLF. It counts the ends of fields.
 #[tactic(auto, using(crate::proofs::Heads::fields_len))]
 pub(crate) fn head_len(head: &Head) -> u64
     ensures { result ≡ stored (length (head_form head.now)) }

@@ -110,7 +110,7 @@ fn put_pairs(out: &mut Bytes, pairs: &[(Bytes, Bytes)]) -> Result<(), Memory>
     Ok(())
 }
 
-/// Puts a head: how many fields it has, and of each its name and its raw body. It goes over the fields twice.
+/// Puts a head: how many fields it has, and of each its name and its raw body. It counts their ends, and then goes over them once.
 pub(crate) fn put_head(out: &mut Bytes, head: &Head) -> Result<(), Memory>
     requires { length (head_form head.now) ≤ MAX_PAYLOAD }
     ensures written { OnOk result (out.new ≡ out.old ++ head_form head.now) }

@@ -1,9 +1,11 @@
 pub mod Lines
 pub mod Names
+pub mod Nearby
 pub mod Steps
 pub mod Forms
 pub mod Whole
 pub mod Changes
+pub mod Counting
 pub mod Law
 pub mod PlainRead
 pub mod Walking

@@ -1,5 +1,5 @@
 -- The first field of a written form, by its text: its name ends at the first colon, and it ends at the first LF that no blank follows.
-use Rattle.std.proofs.Common.{◌≡◌, ℕ, ◌+◌, ◌-◌, ◌≤◌, ◌⊎◌, Bool, true, false, not, ◌&&◌, cond, eqb, inl, inr, List, [], ◌∷◌, ◌++◌, length, take, drop, Some, None, refl, sym, ap, ◌∙◌, arith}
+use Rattle.std.proofs.Common.{◌≡◌, ℕ, ◌+◌, ◌-◌, ◌≤◌, ◌⊎◌, Bool, true, false, not, ◌&&◌, cond, eqb, inl, inr, List, [], ◌∷◌, ◌++◌, length, take, drop, Some, None, refl, sym, ap, subst, ◌∙◌, arith}
 use Rattle.std.specs.List.{list_all, list_any}
 use Rattle.std.proofs.lemmas.Bool.{cond-true, cond-false, cases_Bool, and_parts, and_left, and_right, both_ways}
 use Rattle.std.proofs.lemmas.List.{append-nil, length-take, take_at, take_rest, drop_at}
@@ -86,6 +86,7 @@ pub record IsFront (text : List ℕ) (name : ℕ) : Type 0 where
   pub fields : fields_in text ≡ field ∷ more
   pub within : field_len text ≤ length text
   pub len : field_len text ≡ name + length field.1 + 3
+  pub behind : field_len text ≡ name + 1 + field_len (drop (name + 1) text)
   pub name_is : take name text ≡ field.0
   pub body_is : take (length field.1) (drop (name + 1) text) ≡ field.1
   pub more_is : fields_in (drop (field_len text) text) ≡ more
@@ -103,6 +104,9 @@ front_at text name f more e w h =
     sym (ap before_colon p.0 ∙ before_colon_at (take name text) (drop (name + 1) text) p.1) ∙ ap before_colon whole ∙ before_colon_at f.0 value colons in
     let value-is : drop (name + 1) text ≡ value =
     sym (ap after_colon p.0 ∙ after_colon_at (take name text) (drop (name + 1) text) p.1) ∙ ap after_colon whole ∙ after_colon_at f.0 value colons in
+    let lacks : Lacks 10 (take name text) = subst (Lacks 10) (sym name-is) (name_lacks 10 f.0 no_lf_byte (name_bytes f.0 formed.0)) in
+    let behind-len : field_len text ≡ name + 1 + field_len (drop (name + 1) text) =
+    omega (arith, ap field_len p.0, field_len_over (take name text) (58 ∷ drop (name + 1) text) lacks, length-take name text, h.0.high) in
     let name-len : length f.0 ≡ name = omega (arith, ap length name-is, length-take name text, h.0.high) in
     let len : field_len text ≡ name + length f.1 + 3 = ap field_len whole ∙ field_len-written f more formed.0 formed.1 parts.1 ∙ (omega (arith, name-len)) in
     let field : List ℕ = f.0 ++ ((58 ∷ f.1) ++ 13 ∷ 10 ∷ []) in
@@ -117,6 +121,7 @@ front_at text name f more e w h =
       fields = e;
       within = omega (arith, len, name-len, ap length whole, length-written-cons f more);
       len = len;
+      behind = behind-len;
       name_is = name-is;
       body_is = ap (take (length f.1)) value-is ∙ take_at f.1 (13 ∷ 10 ∷ written more) (length f.1) refl;
       more_is = rest.0;

@@ -1,9 +1,10 @@
 -- Heads of messages (RFC 5322, 2.2): the bytes, the fields, and the place where the body begins.
 use Rattle.std.specs.Prelude.{◌≡◌, ℕ, ◌+◌, nat_lt, nat_le, ◌==◌, Bool, true, false, not, ◌&&◌, if◌then◌else◌, List, [], ◌∷◌, ◌++◌, length, Option, Some, None, Result, Ok, Err}
 use Rattle.std.specs.List.{list_all, list_any}
-use Rattle.mj_terms.specs.Text.{after, is_blank, trim_back}
+use Rattle.mj_terms.specs.Text.{after, trim_back}
 use Rattle.mj_terms.specs.Answers.{GivesBy}
--- names of fields, and lines that continue a field
+-- names of fields, lines that continue a field, and a blank at the front
+pub use Rattle.mj_head_lines.specs.Ends.{begins_blank}
 pub use Rattle.mj_head_lines.specs.Lines.{before_colon, is_name_byte, is_field_name, is_continuation}
 use Rattle.mj_head.specs.declared.fault.HeadFault.{HeadFault}
 use Rattle.mj_head.specs.declared.fault.HeadFault.TheVariants.{ContinuationFirst, NoColon, BadName, TooLong, Memory}
@@ -128,10 +129,6 @@ abbrev pub Gives : Result (List RawField × ℕ) HeadFault → Result (List RawF
 Gives answer read = GivesBy told (λ head. head) answer read
 
 -- ---- The form of a head
-
-abbrev pub begins_blank : List ℕ → Bool
-begins_blank [] = false
-begins_blank (b ∷ text) = is_blank b
 
 -- in a raw body each LF stands between a CR and a blank: `before` is the byte before the text
 abbrev pub is_folded : ℕ → List ℕ → Bool

@@ -8,6 +8,7 @@ mod field;
 mod fields;
 mod head;
 mod line;
+mod near;
 mod read;
 mod text;
 mod unfold;

@@ -1,12 +1,13 @@
 //! Going over the fields of a head.
-ghost use Rattle.std.specs.Prelude.{◌≡◌, length};
+ghost use Rattle.std.specs.Prelude.{◌≡◌, length, Some};
 ghost use Rattle.std.specs.Iterator.{YieldsFirst, item_count};
+ghost use Rattle.bstr.specs.Find.{IsFirstByte, is_byte};
 ghost use Rattle.mj_head.specs.Head.{written, fields_in, IsWritten};
 ghost use Rattle.mj_head.specs.Reading.{field_len};
 
 use crate::field::Field;
+use crate::near::find_near;
 use crate::read::begins_with_blank;
-use bstr::ByteSlice;
 use std::marker::Model;
 
 /// The fields of a head from one of them on, one after another; each costs what its own written form
@@ -56,8 +57,8 @@ impl<'a> Iterator for Fields<'a> {
 
     fn next(&mut self) -> Option<Field<'a>> {
         let text = self.text;
-        let name = text.find_byte(b':')?;
-        let len = field_len(text);
+        let name = find_near(text, b':')?;
+        let len = first_len(text, name);
         self.text = &text[len..];
         Some(Field {
             name: &text[..name],
@@ -66,13 +67,22 @@ impl<'a> Iterator for Fields<'a> {
     }
 }
 
-/// How many bytes the first field of a written form has: it ends at the first LF that no blank
+/// How many bytes the first field of a written form has, whose name ends at this place.
+fn first_len(text: &[u8], name: usize) -> usize
+    requires written { IsWritten text.now }
+    requires colon { IsFirstByte (is_byte 58) text.now (Some name) }
+    ensures { result ≡ field_len text.now }
+{
+    name + 1 + field_len(&text[name + 1..])
+}
+
+/// How many bytes the first field of a written form has, or what is left of it: it ends at the first LF that no blank
 /// follows (RFC 5322, 2.2.3).
 fn field_len(text: &[u8]) -> usize
     ensures { result ≡ field_len text.now }
 {
     let mut rest = text;
-    while let Some(end) = rest.find_byte(b'\n') {
+    while let Some(end) = find_near(rest, b'\n') {
         rest = &rest[end + 1..];
         if !begins_with_blank(rest) {
             return text.len() - rest.len();

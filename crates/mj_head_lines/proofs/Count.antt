@@ -34,14 +34,14 @@ ones_low m k =
     let next : suc k ≡ 1 + k = omega arith in
     ap (λ e. ones (m % 2 ^ e)) next ∙ ap ones (mod-pow-add m 1 k) ∙ ones_cat k (m / 2 ^ k % 2 ^ 1) (m % 2 ^ k) (mod-lt m (pow_pos k))
 
-ones-unset : (m k : ℕ) → has_bit m k ≡ false → ones (m % 2 ^ suc k) ≡ ones (m % 2 ^ k)
+pub ones-unset : (m k : ℕ) → has_bit m k ≡ false → ones (m % 2 ^ suc k) ≡ ones (m % 2 ^ k)
 unfolding has_bit ones ones_in
 ones-unset m k h =
     let bit : bit_at m k ≡ 0 = omega (arith, bit_at-lt m k, eqb-false (bit_at m k) 1 h) in
     let none : ones (bit_at m k) ≡ 0 = ap ones bit in
     omega (arith, ones_low m k)
 
-ones-set : (m k : ℕ) → has_bit m k ≡ true → ones (m % 2 ^ suc k) ≡ ones (m % 2 ^ k) + 1
+pub ones-set : (m k : ℕ) → has_bit m k ≡ true → ones (m % 2 ^ suc k) ≡ ones (m % 2 ^ k) + 1
 unfolding has_bit ones ones_in
 ones-set m k h =
     let one : ones (bit_at m k) ≡ 1 = ap ones (eqb-true (bit_at m k) 1 h) in

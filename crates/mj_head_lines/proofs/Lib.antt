@@ -1,3 +1,4 @@
 pub mod Bits
 pub mod Count
+pub mod FieldEnds
 pub mod PlainLines

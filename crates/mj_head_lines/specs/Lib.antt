@@ -1,3 +1,4 @@
+pub mod Ends
 pub mod Lines
 pub mod Plain
 -- blanks, on which these definitions stand

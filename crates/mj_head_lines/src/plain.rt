@@ -8,11 +8,11 @@ use std::simd::prelude::*;
 
 /// Which of the 64 bytes of a block are which: bit k of a mask stands for byte k.
 #[derive(Clone, Copy)]
-struct Masks {
-    lf: u64,
+pub(crate) struct Masks {
+    pub(crate) lf: u64,
     cr: u64,
     colon: u64,
-    blank: u64,
+    pub(crate) blank: u64,
     name: u64,
 }
 
@@ -39,7 +39,7 @@ fn marks_of_name_bytes(block: u8x64) -> u64
 }
 
 #[inline(always)]
-fn masks_of(text: &[u8]) -> Masks
+pub(crate) fn masks_of(text: &[u8]) -> Masks
     requires { 64 ≤ length text.now }
     ensures { AreMasks text.now result }
 {
