@@ -2,6 +2,7 @@
 ghost use Rattle.std.specs.Prelude.{◌≡◌, ◌++◌, ◌≤◌, true, length, OnOk};
 ghost use Rattle.std.specs.Int.{w32, w64, to_le_bytes};
 ghost use Rattle.std.specs.List.{flat_map};
+ghost use Rattle.mj_fields.specs.Fields.{with_length};
 ghost use Rattle.mj_entry_rows.specs.Forms.{AreAddressed, AreStrings, IsLong, IsSender, IsWord};
 ghost use Rattle.mj_head.specs.Head.{is_head};
 ghost use Rattle.mj_mail.specs.declared.limits.TheConstants.{MAX_PAYLOAD};
@@ -127,7 +128,19 @@ fn put_fields(out: &mut Bytes, fields: Fields<'_>) -> Result<(), Memory>
     ensures { OnOk result (out.new ≡ out.old ++ flat_map pair_form fields.entry) }
 {
     for field in fields {
-        put_pair(out, field.name(), field.body())?;
+        put_string(out, field.name())?;
+        put_string(out, field.body())?;
     }
     Ok(())
+}
+
+/// Puts a string behind its length, as [`put_bytes`] does, but without a call: most names and bodies of fields are so short
+/// that it would cost more than they do.
+#[inline(always)]
+fn put_string(out: &mut Bytes, text: &[u8]) -> Result<(), Memory>
+    requires { length text.now ≤ MAX_PAYLOAD }
+    ensures { OnOk result (out.new ≡ out.old ++ with_length text.now) }
+{
+    out.extend(&(text.len() as u32).to_le_bytes())?;
+    out.extend(text)
 }

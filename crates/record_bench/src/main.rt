@@ -47,6 +47,18 @@ fn number(word: &String) -> Result<u64, EntryFault> {
     word.as_str().parse::<u64>().map_err(|_| EntryFault::Bad)
 }
 
+/// Writes the entry of this shape so many times.
+fn writes(alloc: Global, shape: &[String], count: u64) -> Result<(), EntryFault> {
+    let entry = entry_of(alloc, shape)?;
+    write_again(alloc, &entry, count)
+}
+
+/// Reads the entry of this shape so many times.
+fn reads(alloc: Global, shape: &[String], count: u64) -> Result<(), EntryFault> {
+    let entry = entry_of(alloc, shape)?;
+    read_again(alloc, &entry, count)
+}
+
 /// Prints what so many payloads of a seed are, and says whether each entry was written to its bytes again.
 fn mutates(rt: &(impl Print + AllocGlobal), seed: u64, count: u64) -> bool {
     let Ok(judged) = judge_all(rt.alloc(), seed, count) else {
@@ -64,11 +76,11 @@ fn does(rt: &(impl Print + AllocGlobal), words: &[String]) -> Result<bool, Entry
     let alloc = rt.alloc();
     match words {
         [word, count, shape @ ..] if word.as_str() == "write" => {
-            write_again(alloc, &entry_of(alloc, shape)?, number(count)?)?;
+            writes(alloc, shape, number(count)?)?;
             Ok(true)
         }
         [word, count, shape @ ..] if word.as_str() == "read" => {
-            read_again(alloc, &entry_of(alloc, shape)?, number(count)?)?;
+            reads(alloc, shape, number(count)?)?;
             Ok(true)
         }
         [word, seed, count] if word.as_str() == "mutate" => {

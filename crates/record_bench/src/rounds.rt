@@ -21,7 +21,14 @@ pub(crate) fn written(alloc: Global, entry: &Entry) -> Result<Bytes, EntryFault>
 #[tactic(auto, using(mj_entry_write::proofs::Whole::whole))]
 pub(crate) fn is_same(alloc: Global, bytes: &[u8]) -> Result<bool, EntryFault> {
     let entry = read_entry(alloc, bytes)?;
-    let again = written(alloc, &entry)?;
+    is_written_as(alloc, &entry, bytes)
+}
+
+/// Whether the entry is written to these bytes.
+fn is_written_as(alloc: Global, entry: &Entry, bytes: &[u8]) -> Result<bool, EntryFault>
+    requires { is_whole entry.now ≡ true }
+{
+    let again = written(alloc, entry)?;
     Ok(again.as_slice() == bytes)
 }
 
