@@ -134,13 +134,21 @@ fn put_fields(out: &mut Bytes, fields: Fields<'_>) -> Result<(), Memory>
     Ok(())
 }
 
-/// Puts a string behind its length, as [`put_bytes`] does, but without a call: most names and bodies of fields are so short
-/// that it would cost more than they do.
+/// Puts a string behind its length, as [`put_bytes`] does, but without a call, and a short one at once with its length: most
+/// names and bodies of fields are so short that it would cost more than they do.
 #[inline(always)]
 fn put_string(out: &mut Bytes, text: &[u8]) -> Result<(), Memory>
     requires { length text.now ≤ MAX_PAYLOAD }
     ensures { OnOk result (out.new ≡ out.old ++ with_length text.now) }
 {
-    out.extend(&(text.len() as u32).to_le_bytes())?;
-    out.extend(text)
+    match text {
+        [a] => out.extend(&[1, 0, 0, 0, *a]),
+        [a, b] => out.extend(&[2, 0, 0, 0, *a, *b]),
+        [a, b, c] => out.extend(&[3, 0, 0, 0, *a, *b, *c]),
+        [a, b, c, d] => out.extend(&[4, 0, 0, 0, *a, *b, *c, *d]),
+        _ => {
+            out.extend(&(text.len() as u32).to_le_bytes())?;
+            out.extend(text)
+        }
+    }
 }

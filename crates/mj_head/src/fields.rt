@@ -118,9 +118,49 @@ fn put_parts(text: &mut Vec<u8>, name: &[u8], front: &[u8], body: &[u8]) -> Resu
         (text.new.items ≡ text.old.items ++ written ((name.now, front.now ++ body.now) ∷ [])) }
     ensures err { Extends text.old.items text.new.items }
 {
-    text.extend_from_slice(name)?;
+    put_name(text, name)?;
+    if front.is_empty() {
+        return put_body(text, body);
+    }
     text.extend_from_slice(b":")?;
     text.extend_from_slice(front)?;
     text.extend_from_slice(body)?;
     text.extend_from_slice(b"\r\n")
+}
+
+/// Puts the name of a field at the end. A copy of a fixed length spares a short name the call.
+#[inline(always)]
+fn put_name(text: &mut Vec<u8>, name: &[u8]) -> Result<(), AllocError>
+    ensures ok { OnOk result (text.new.items ≡ text.old.items ++ name.now) }
+    ensures err { OnErr result (text.new.items ≡ text.old.items) }
+{
+    match name {
+        [a] => text.extend_from_slice(&[*a]),
+        [a, b] => text.extend_from_slice(&[*a, *b]),
+        [a, b, c] => text.extend_from_slice(&[*a, *b, *c]),
+        [a, b, c, d] => text.extend_from_slice(&[*a, *b, *c, *d]),
+        _ => text.extend_from_slice(name),
+    }
+}
+
+/// Puts what follows the name of a field at the end: the colon, the raw body and CR LF. Around a short
+/// body they are put at once.
+#[inline(always)]
+fn put_body(text: &mut Vec<u8>, body: &[u8]) -> Result<(), AllocError>
+    ensures ok { OnOk result
+        (text.new.items ≡ text.old.items ++ 58 ∷ body.now ++ 13 ∷ 10 ∷ []) }
+    ensures err { Extends text.old.items text.new.items }
+{
+    match body {
+        [] => text.extend_from_slice(b":\r\n"),
+        [a] => text.extend_from_slice(&[b':', *a, b'\r', b'\n']),
+        [a, b] => text.extend_from_slice(&[b':', *a, *b, b'\r', b'\n']),
+        [a, b, c] => text.extend_from_slice(&[b':', *a, *b, *c, b'\r', b'\n']),
+        [a, b, c, d] => text.extend_from_slice(&[b':', *a, *b, *c, *d, b'\r', b'\n']),
+        _ => {
+            text.extend_from_slice(b":")?;
+            text.extend_from_slice(body)?;
+            text.extend_from_slice(b"\r\n")
+        }
+    }
 }
