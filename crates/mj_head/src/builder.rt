@@ -41,6 +41,7 @@ impl HeadBuilder {
 
     /// Adds the field of this name and raw body at the end. The answer is `false`, with the fields as
     /// before, exactly where no text has the head with this field, as [`Head::add_raw`] says.
+    #[inline(always)]
     pub fn add_raw(&mut self, name: &[u8], body: &[u8]) -> Result<bool, AllocError>
         ensures answer { IfOk result (λ added. IsTrue added
             ↔ IsSomeHead (self.old ++ (name.now, body.now) ∷ [])) }
